@@ -1,0 +1,102 @@
+// Dates: whether they are in the calendar, their order, and the months between them.
+ghost use mathlib.Core.Path.{_≡_};
+ghost use mathlib.Core.Bool.{cond};
+ghost use Prim.Native.Nat.{_-_, _<_};
+ghost use lib.Dec.{ltb};
+ghost use Rattle.calendar.specs.Calendar.{leap, thirty, monthLength, inCalendar, earlier, monthIndex, months, sixtiethBirthday};
+
+// Any three numbers of these widths, as they stand in a case line; in_calendar tells which are dates.
+pub struct Date {
+    pub year: u16,
+    pub month: u8,
+    pub day: u8,
+}
+
+fn leap_year(year: u16) -> bool
+    ensures { λ r. ⌜ r ≡ leap year ⌝ }
+{
+    let fourth = year % 4 == 0;
+    let hundredth = year % 100 == 0;
+    let four_hundredth = year % 400 == 0;
+    fourth & (!hundredth | four_hundredth)
+}
+
+fn thirty_days(month: u8) -> bool
+    ensures { λ r. ⌜ r ≡ thirty month ⌝ }
+{
+    let april = month == 4;
+    let june = month == 6;
+    let september = month == 9;
+    let november = month == 11;
+    april | june | (september | november)
+}
+
+fn days_of_month(year: u16, month: u8) -> u8
+    ensures { λ r. ⌜ r ≡ monthLength year month ⌝ }
+{
+    if month == 2 {
+        if leap_year(year) { 29 } else { 28 }
+    } else {
+        if thirty_days(month) { 30 } else { 31 }
+    }
+}
+
+// Whether d is a date of the calendar, by its year, its month, its day and the month's length.
+pub fn in_calendar(d: Date) -> bool
+    ensures { λ r. ⌜ r ≡ inCalendar d ⌝ }
+{
+    let year = (1900 <= d.year) & (d.year <= 2199);
+    let month = (1 <= d.month) & (d.month <= 12);
+    let day = (1 <= d.day) & (d.day <= 31);
+    let last = days_of_month(d.year, d.month);
+    year & (month & (day & (d.day <= last)))
+}
+
+// Whether a is strictly before b.
+pub fn is_earlier(a: Date, b: Date) -> bool
+    ensures { λ r. ⌜ r ≡ earlier a b ⌝ }
+{
+    let year = a.year < b.year;
+    let same_year = a.year == b.year;
+    let month = a.month < b.month;
+    let same_month = a.month == b.month;
+    let day = a.day < b.day;
+    year | same_year & (month | same_month & day)
+}
+
+// Months since the start of the year 0, far within 32 bits.
+fn month_index(d: Date) -> u32
+    ensures { λ r. ⌜ (r ≡ monthIndex d) × (r < 1048576) ⌝ }
+{
+    let year = d.year as u32;
+    let month = d.month as u32;
+    12 * year + month
+}
+
+// Whole months from one month's day to another's; 0 where the second is not a whole month later.
+fn whole_months(from: u32, from_day: u8, to: u32, to_day: u8) -> u32
+    ensures { λ r. ⌜ r ≡ to - from - cond (ltb «to_day» «from_day») 1 0 ⌝ }
+{
+    if to <= from {
+        return 0;
+    }
+    if to_day < from_day {
+        return to - from - 1;
+    }
+    to - from
+}
+
+// Whole months from a to b; 0 where b is before a.
+pub fn months_between(a: Date, b: Date) -> u32
+    ensures { λ r. ⌜ r ≡ months a b ⌝ }
+{
+    whole_months(month_index(a), a.day, month_index(b), b.day)
+}
+
+// Whole months from a date to the 60th birthday of one born at birth; 0 where that is past.
+pub fn months_to_sixtieth_birthday(birth: Date, from: Date) -> u32
+    ensures { λ r. ⌜ r ≡ months from (sixtiethBirthday birth) ⌝ }
+{
+    let birthday = month_index(birth) + 720;
+    whole_months(month_index(from), from.day, birthday, birth.day)
+}

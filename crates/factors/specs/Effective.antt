@@ -1,0 +1,21 @@
+-- The effective factor E of a pension ("Split" of document 01), as a top over a bottom. Assumes nothing.
+use Prim.Native.Nat.{ℕ, _+_, _*_}
+use mathlib.Core.Bool.{cond}
+use lib.Dec.{eqb}
+use Rattle.factors.specs.declared.effective.Factor.{Factor}
+use Rattle.factors.specs.declared.effective.FactorTerms.{FactorTerms}
+
+-- N = 10,000 × F1 + PI × F2
+unfoldable pub lumpTop : FactorTerms → ℕ
+lumpTop t = 10000 * t .f1 + t .increase * t .f2
+
+-- D = 10,000,000 + PI × F3
+unfoldable pub lumpBottom : FactorTerms → ℕ
+lumpBottom t = 10000000 + t .increase * t .f3
+
+-- "kind 1, F1/100; kind 3, 12; kind 2, 10N/D"; a number that is no kind counts as 3
+unfoldable pub effectiveFactor : ℕ → FactorTerms → Factor
+effectiveFactor kind t =
+    cond (eqb kind 1) (record { top = t .f1; bottom = 100 })
+    (cond (eqb kind 2) (record { top = 10 * lumpTop t; bottom = lumpBottom t })
+    (record { top = 12; bottom = 1 }))

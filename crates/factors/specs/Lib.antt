@@ -1,0 +1,4 @@
+pub mod Commutation
+pub mod EarlyPayment
+pub mod Effective
+pub mod Figures
