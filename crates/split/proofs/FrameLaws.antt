@@ -1,0 +1,28 @@
+-- Laws of fields: a digit is below 16, and a number of n digits below 16 to the n. Assumes nothing.
+use mathlib.Core.Path.{_≡_, refl}
+use Prim.Native.Nat.{ℕ, zero, suc, _+_, _*_, _^_, _<_, _≤_}
+use native.Mathlib.Nat.{mod-lt, pow-suc, pow-zero, pow-le-pow-right, lt-of-lt-of-le}
+use native.Mathlib.Numerals.{add-one}
+use native.Mathlib.Omega.{arith}
+use mathlib.Core.List.{List}
+use lib.Dec.{lit<}
+use Rattle.split.specs.Frame.{digitAt, numberAt, hexValue}
+
+pub digit-below : (s : List ℕ) (at : ℕ) → digitAt s at < 16
+unfolding digitAt
+digit-below s at = omega arith
+
+pub number-below : (s : List ℕ) (at n : ℕ) → numberAt s at n < 16 ^ n
+unfolding numberAt
+number-below s at zero = omega arith
+number-below s at (suc n) = rw pow-suc (omega (arith, number-below s at n, digit-below s (at + n)))
+
+-- before its eighth digit a number has room for one more in 32 bits
+pub number-room : (s : List ℕ) (at n : ℕ) → n < 8 → numberAt s at n < 268435456
+number-room s at n h =
+    lt-of-lt-of-le (number-below s at n) (pow-le-pow-right {n = 16} (omega arith) {j = 7} (omega arith))
+
+-- one more digit at the end
+pub number-more : (s : List ℕ) (at n : ℕ) → numberAt s at n * 16 + digitAt s (at + n) ≡ numberAt s at (n + 1)
+unfolding numberAt
+number-more s at n = rw add-one

@@ -1,0 +1,11 @@
+pub mod Best
+pub mod CaseLaws
+pub mod FrameLaws
+pub mod GrantLaws
+pub mod Level
+pub mod ListLaws
+pub mod Prices
+pub mod RefusalLaws
+pub mod Rows
+pub mod Served
+pub mod Turns

@@ -1,0 +1,82 @@
+-- The price against the exact cost: a price times its top is at least 3 tops and 20 bottoms, in billionths, and
+-- at most a top more. Summed over the pensions, with the product of the tops, this compares what a split spends
+-- with its exact cost. Assumes nothing.
+use Prim.Native.Nat.{ℕ, _+_, _-_, _*_, _≤_}
+use mathlib.Core.List.{List, [], _∷_}
+use native.Mathlib.Nat
+use native.Mathlib.Omega.{arith}
+use Rattle.factors.specs.declared.effective.Factor.{Factor}
+use Rattle.split.specs.declared.limits.Benefit.{Benefit}
+use Rattle.split.specs.Limits.{total, priceOf, totalCap, WithinCaps, spend, pricedLimit, KeepsPriced, tops, exactCost}
+use Rattle.split.specs.Limits.{KeepsExact, PositiveTops}
+
+ruleset ring = (Nat.add-mul, Nat.mul-add, Nat.mul-assoc, Nat.mul-comm, Nat.mul-left-comm)
+
+-- every price is at least three billion billionths
+pub price-floor : (e : Factor) → 3000000000 ≤ priceOf e
+unfolding priceOf
+price-floor e = omega arith
+
+-- a price times its top is at least 3 tops and 20 bottoms, in billionths
+price-covers : (e : Factor) → 1 ≤ e .top → 3000000000 * e .top + 20000000000 * e .bottom ≤ priceOf e * e .top
+unfolding priceOf
+price-covers e positive =
+    rw Nat.add-mul (omega (arith, Nat.lt-div-mul-add {a = 20000000000 * e .bottom + (e .top - 1)} {b = e .top} positive))
+
+-- and at most a top more
+price-near : (e : Factor) → priceOf e * e .top ≤ 3000000000 * e .top + 20000000000 * e .bottom + e .top
+unfolding priceOf
+price-near e = rw Nat.add-mul (omega (arith, Nat.div-mul-le-self (20000000000 * e .bottom + (e .top - 1)) (e .top)))
+
+-- the product of positive tops is positive
+tops-positive : (bs : List Benefit) → PositiveTops bs → 1 ≤ tops bs
+tops-positive [] h = omega arith
+tops-positive (b ∷ bs) h = Nat.one-le-mul (h .0) (tops-positive bs (h .1))
+
+-- One pension more, over plain numbers: x pence at the price p of the factor t / b, before others of exact cost c, spend s,
+-- total n and tops u.
+covers-more : (x p t b c s u : ℕ) → 3000000000 * t + 20000000000 * b ≤ p * t → c * 1000000000 ≤ s * u
+    → (x * (3 * t + 20 * b) * u + t * c) * 1000000000 ≤ (x * p + s) * (t * u)
+covers-more x p t b c s u h k =
+    simp ring (omega (arith, simp ring at (Nat.mul-le-mul-left (x * u) h), simp ring at (Nat.mul-le-mul-left t k)))
+
+near-more : (x p t b c s u n : ℕ) → p * t ≤ 3000000000 * t + 20000000000 * b + t → s * u ≤ c * 1000000000 + n * u
+    → (x * p + s) * (t * u) ≤ (x * (3 * t + 20 * b) * u + t * c) * 1000000000 + (x + n) * (t * u)
+near-more x p t b c s u n h k =
+    simp ring (omega (arith, simp ring at (Nat.mul-le-mul-left (x * u) h), simp ring at (Nat.mul-le-mul-left t k)))
+
+-- what a split spends covers its exact cost
+spend-covers : (bs : List Benefit) (xs : List ℕ) → PositiveTops bs → exactCost bs xs * 1000000000 ≤ spend bs xs * tops bs
+spend-covers [] xs h = omega arith
+spend-covers (b ∷ bs) [] h = omega (arith, Nat.zero-mul (tops (b ∷ bs)))
+spend-covers (b ∷ bs) (x ∷ xs) h =
+    covers-more x (priceOf (b .factor)) (b .factor .top) (b .factor .bottom) (exactCost bs xs) (spend bs xs) (tops bs)
+    (price-covers (b .factor) (h .0)) (spend-covers bs xs (h .1))
+
+-- and is over it by at most its total
+spend-near : (bs : List Benefit) (xs : List ℕ) → spend bs xs * tops bs ≤ exactCost bs xs * 1000000000 + total xs * tops bs
+spend-near [] xs = omega arith
+spend-near (b ∷ bs) [] = omega (arith, Nat.zero-mul (tops (b ∷ bs)))
+spend-near (b ∷ bs) (x ∷ xs) =
+    near-more x (priceOf (b .factor)) (b .factor .top) (b .factor .bottom) (exactCost bs xs) (spend bs xs) (tops bs) (total xs)
+    (price-near (b .factor)) (spend-near bs xs)
+
+-- a split that keeps the priced limit keeps the exact one
+pub priced-exact : (bs : List Benefit) (xs : List ℕ) → PositiveTops bs → KeepsPriced bs xs → KeepsExact bs xs
+priced-exact bs xs h k =
+    simp ring (omega (arith, simp ring at (spend-covers bs xs h), simp ring at (Nat.mul-le-mul-left (tops bs) k)))
+
+-- a split that keeps the exact limit is over the priced one by at most its total
+pub exact-priced : (bs : List Benefit) (xs : List ℕ) → PositiveTops bs → KeepsExact bs xs
+    → spend bs xs ≤ pricedLimit bs + total xs
+exact-priced bs xs h k =
+    Nat.le-of-mul-le-mul-right {k = tops bs}
+    (simp ring (omega (arith, simp ring at (spend-near bs xs), simp ring at k)))
+    (tops-positive bs h)
+
+-- a split within the caps has at most their sum for its total
+pub total-capped : (bs : List Benefit) (xs : List ℕ) → WithinCaps bs xs → total xs ≤ totalCap bs
+total-capped [] [] h = omega arith
+total-capped [] (x ∷ xs) h = absurd h
+total-capped (b ∷ bs) [] h = absurd h
+total-capped (b ∷ bs) (x ∷ xs) h = omega (arith, total-capped bs xs (h .1))

@@ -1,0 +1,150 @@
+-- The lowest condition of a case is the lower of those of its head, of each pension and of the total: a list of
+-- conditions joined place by place with another has the lower of their lowest. Assumes nothing.
+use Prim.Native.Nat.{ℕ, zero, suc, _+_, _≤_, _<_, min}
+use mathlib.Core.Path.{_≡_, refl, sym, _∙_, ap, ap₂}
+use mathlib.Core.Bool.{Bool, true, false, cond, _||_, or-false, or-assoc}
+use mathlib.Core.Logic.{_⊎_, inl, inr, ⊎-elim}
+use mathlib.Core.List.{List, [], _∷_, _++_}
+use native.Mathlib.Omega.{arith}
+use lib.Dec.{leb, ltb, eqb}
+use lib.ListN.{length, getD, take}
+use borrow.Author.Tests.{ne-eqb, lt-ltb, le-ltb}
+use Rattle.split.specs.declared.case.Head.{Head}
+use Rattle.split.specs.declared.case.Pension.{Pension}
+use Rattle.split.specs.Case.{noPension}
+use Rattle.split.specs.Frame.{any}
+use Rattle.split.specs.Refusal.{ageOf, undatedHead, undated, disordered, badAge, unknownKind, unlisted, wrongAge, noFactor, unstated, totalStated, conditions, lowest}
+use Rattle.split.specs.Parts.{lower, headConditions, pensionConditions}
+use Rattle.split.proofs.ListLaws.{any-snoc, take-next}
+
+-- two lists of conditions, place by place
+abbrev pub either : List Bool → List Bool → List Bool
+either [] bs = []
+either (a ∷ xs) [] = []
+either (a ∷ xs) (b ∷ bs) = (a || b) ∷ either xs bs
+
+-- `lower` by its cases
+lower-none : (a : ℕ) → lower a 0 ≡ a
+unfolding lower
+lower-none zero = refl
+lower-none (suc a) = simp (ne-eqb (suc a) 0 (omega arith))
+
+none-lower : (b : ℕ) → lower 0 b ≡ b
+unfolding lower
+none-lower b = refl
+
+lower-both : (a b : ℕ) → 0 < a → 0 < b → lower a b ≡ min a b
+unfolding lower
+lower-both a b p q = simp (ne-eqb a 0 (omega arith), ne-eqb b 0 (omega arith))
+
+-- a lowest condition counted from k is none or at least k
+lowest-from : (k : ℕ) (bs : List Bool) → (lowest k bs ≡ 0) ⊎ (k ≤ lowest k bs)
+lowest-from k [] = inl refl
+lowest-from k (true ∷ bs) = inr (omega arith)
+lowest-from k (false ∷ bs) = ⊎-elim inl (λ h. inr (omega arith)) (lowest-from (suc k) bs)
+
+-- a condition that holds is lower than any at a later place
+lower-first : (k : ℕ) (bs : List Bool) → lower (suc k) (lowest (suc (suc k)) bs) ≡ suc k
+lower-first k bs =
+    ⊎-elim {A = lowest (suc (suc k)) bs ≡ 0}
+    (λ e. ap (λ (n : ℕ). lower (suc k) n) e ∙ lower-none (suc k))
+    (λ h. lower-both (suc k) (lowest (suc (suc k)) bs) (omega arith) (omega arith) ∙ omega arith)
+    (lowest-from (suc (suc k)) bs)
+
+lower-last : (k : ℕ) (bs : List Bool) → lower (lowest (suc (suc k)) bs) (suc k) ≡ suc k
+lower-last k bs =
+    ⊎-elim {A = lowest (suc (suc k)) bs ≡ 0}
+    (λ e. ap (λ (n : ℕ). lower n (suc k)) e ∙ none-lower (suc k))
+    (λ h. lower-both (lowest (suc (suc k)) bs) (suc k) (omega arith) (omega arith) ∙ omega arith)
+    (lowest-from (suc (suc k)) bs)
+
+-- the lowest of either
+pub lowest-either : (k : ℕ) (xs bs : List Bool) → length xs ≡ length bs
+    → lowest (suc k) (either xs bs) ≡ lower (lowest (suc k) xs) (lowest (suc k) bs)
+lowest-either k [] [] e = sym (none-lower 0)
+lowest-either k [] (b ∷ bs) e = absurd (omega arith)
+lowest-either k (x ∷ xs) [] e = absurd (omega arith)
+lowest-either k (true ∷ xs) (true ∷ bs) e = sym (lower-both (suc k) (suc k) (omega arith) (omega arith) ∙ omega arith)
+lowest-either k (true ∷ xs) (false ∷ bs) e = sym (lower-first k bs)
+lowest-either k (false ∷ xs) (true ∷ bs) e = sym (lower-last k xs)
+lowest-either k (false ∷ xs) (false ∷ bs) e = lowest-either (suc k) xs bs (omega arith)
+
+-- the conditions 3 to 10, the total apart
+pub partly : Head → List Pension → List Bool
+partly h ps =
+    (undatedHead h || any undated ps) ∷
+    any (disordered h) ps ∷
+    badAge (ageOf h) ∷
+    any unknownKind ps ∷
+    any unlisted ps ∷
+    any (wrongAge (ageOf h)) ps ∷
+    any (noFactor (ageOf h)) ps ∷
+    any unstated ps ∷ []
+
+-- with no pension they are the head's
+pub partly-start : (h : Head) → lowest 3 (partly h []) ≡ lowest 3 (headConditions h)
+unfolding partly headConditions
+partly-start h = simp or-false
+
+-- one more pension
+partly-either : (h : Head) (ps : List Pension) (p : Pension)
+    → partly h (ps ++ (p ∷ [])) ≡ either (partly h ps) (pensionConditions h p)
+unfolding partly pensionConditions
+partly-either h ps p = simp (any-snoc, or-assoc, or-false)
+
+pub partly-more : (h : Head) (ps : List Pension) (p : Pension)
+    → lowest 3 (partly h (ps ++ (p ∷ []))) ≡ lower (lowest 3 (partly h ps)) (lowest 3 (pensionConditions h p))
+unfolding partly pensionConditions
+partly-more h ps p =
+    ap (λ (bs : List Bool). lowest 3 bs) (partly-either h ps p) ∙ lowest-either 2 (partly h ps) (pensionConditions h p) refl
+
+-- and at last the total
+above : Bool → List Bool
+above b = false ∷ false ∷ false ∷ false ∷ false ∷ false ∷ false ∷ b ∷ []
+
+conditions-either : (h : Head) (ps : List Pension)
+    → conditions h ps ≡ either (partly h ps) (above (ltb 50000000 (totalStated ps)))
+unfolding conditions partly above
+conditions-either h ps = simp or-false
+
+pub conditions-total : (h : Head) (ps : List Pension)
+    → lowest 3 (conditions h ps) ≡ lower (lowest 3 (partly h ps)) (cond (ltb 50000000 (totalStated ps)) 10 0)
+unfolding partly above
+conditions-total h ps =
+    ap (λ (bs : List Bool). lowest 3 bs) (conditions-either h ps) ∙
+    lowest-either 2 (partly h ps) (above (ltb 50000000 (totalStated ps))) refl
+
+pub total-more : (ps : List Pension) (p : Pension) → totalStated (ps ++ (p ∷ [])) ≡ totalStated ps + p .stated .0
+total-more [] p = omega arith
+total-more (q ∷ ps) p = omega (arith, total-more ps p)
+
+-- the conditions of a pension, the later ones together
+pub pension-lowest : (h : Head) (p : Pension) (age : ℕ) → age ≡ ageOf h → lowest 3 (pensionConditions h p)
+    ≡ cond (undated p) 3
+    (cond (disordered h p) 4
+    (cond (unknownKind p) 6 (lowest 7 (unlisted p ∷ wrongAge age p ∷ noFactor age p ∷ unstated p ∷ []))))
+unfolding pensionConditions
+pension-lowest h p age e = rw e
+
+-- a turn of the loop over the pensions: what the next pension breaks
+pub partly-next : (h : Head) (l : List Pension) (i r a b : ℕ) → i < length l → a ≡ lowest 3 (partly h (take i l))
+    → b ≡ lowest 3 (pensionConditions h (getD l i noPension)) → r ≡ lower a b → r ≡ lowest 3 (partly h (take (i + 1) l))
+partly-next h l i r a b place x y e =
+    e ∙ ap₂ lower x y ∙ sym (ap (λ (ps : List Pension). lowest 3 (partly h ps)) (take-next l i noPension place)
+    ∙ partly-more h (take i l) (getD l i noPension))
+
+-- and what it adds to the total
+pub total-next : (l : List Pension) (i t : ℕ) → i < length l → t ≡ totalStated (take i l)
+    → t + (getD l i noPension) .stated .0 ≡ totalStated (take (i + 1) l)
+total-next l i t place e = rw (take-next l i noPension place, total-more, e)
+
+-- after the loop, a total above the limit counts as one more condition
+pub total-above : (h : Head) (ps : List Pension) (t a r : ℕ) → t ≡ totalStated ps → a ≡ lowest 3 (partly h ps) → 50000000 < t
+    → r ≡ lower a 10 → r ≡ lowest 3 (conditions h ps)
+total-above h ps t a r e x over y =
+    y ∙ ap (λ (n : ℕ). lower n 10) x ∙ sym (conditions-total h ps ∙ simp (← e, lt-ltb 50000000 t over))
+
+pub total-within : (h : Head) (ps : List Pension) (t a : ℕ) → t ≡ totalStated ps → a ≡ lowest 3 (partly h ps) → t ≤ 50000000
+    → a ≡ lowest 3 (conditions h ps)
+total-within h ps t a e x small =
+    x ∙ sym (conditions-total h ps ∙ simp (← e, le-ltb 50000000 t small) (lower-none (lowest 3 (partly h ps))))

@@ -1,0 +1,12 @@
+-- `short` is a number of 4 digits, which its type holds.
+use native.Mathlib.Omega.{arith}
+use borrow.Author.Needs.{needs}
+use Rattle.split.proofs.FrameLaws.{number-below}
+use Rattle.split.proofs.frame.Cursor.short.Statement.{statement}
+use Rattle.split.proofs.frame.Cursor.short.Tie as tie
+
+cast-t5 : tie.Need-cast-t5
+cast-t5 c = omega (arith, number-below (c .before .before .before .before .args .line .now) (c .before .before .before .before .args .self .at) 4, c .before .before .digits .ensures .0)
+
+pub short-spec : {M : Type 1} → statement M
+short-spec = tie.close (tie.spec (search needs) cast-t5 (search needs))

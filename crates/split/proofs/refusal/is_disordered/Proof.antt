@@ -1,0 +1,12 @@
+-- `is_disordered` is the definition `disordered`, by what its calls promise.
+use borrow.Author.Needs.{needs}
+use Rattle.split.specs.Refusal.{disordered}
+use Rattle.split.proofs.refusal.is_disordered.Statement.{statement}
+use Rattle.split.proofs.refusal.is_disordered.Tie as tie
+
+returns : tie.Need-returns
+unfolding disordered
+returns c = cc
+
+pub is-disordered-spec : {M : Type 1} → statement M
+is-disordered-spec = tie.close (tie.spec (search needs) (search needs) (search needs) returns)

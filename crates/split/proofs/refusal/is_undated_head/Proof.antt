@@ -1,0 +1,12 @@
+-- `is_undated_head` is the definition `undatedHead`, by what its calls promise.
+use borrow.Author.Needs.{needs}
+use Rattle.split.specs.Refusal.{undatedHead}
+use Rattle.split.proofs.refusal.is_undated_head.Statement.{statement}
+use Rattle.split.proofs.refusal.is_undated_head.Tie as tie
+
+returns : tie.Need-returns
+unfolding undatedHead
+returns c = cc
+
+pub is-undated-head-spec : {M : Type 1} → statement M
+is-undated-head-spec = tie.close (tie.spec (search needs) (search needs) returns)

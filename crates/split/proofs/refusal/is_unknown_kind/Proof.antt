@@ -1,0 +1,12 @@
+-- `is_unknown_kind` is the definition `unknownKind`, by what its calls promise.
+use borrow.Author.Needs.{needs}
+use Rattle.split.specs.Refusal.{unknownKind}
+use Rattle.split.proofs.refusal.is_unknown_kind.Statement.{statement}
+use Rattle.split.proofs.refusal.is_unknown_kind.Tie as tie
+
+returns : tie.Need-returns
+unfolding unknownKind
+returns c = cc
+
+pub is-unknown-kind-spec : {M : Type 1} → statement M
+is-unknown-kind-spec = tie.close (tie.spec (search needs) (search needs) returns)

@@ -1,0 +1,31 @@
+-- `pension_refusal`: the first test that passes is the lowest condition; those after the kind are the callee's.
+use borrow.Author.Needs.{needs}
+use mathlib.Core.Path.{sym, _∙_}
+use Rattle.split.proofs.RefusalLaws.{pension-lowest}
+use Rattle.split.proofs.refusal.pension_refusal.Statement.{statement}
+use Rattle.split.proofs.refusal.pension_refusal.Tie as tie
+
+returns : tie.Need-returns
+returns c =
+    let s = c .before .before in
+    sym (pension-lowest (s .args .head) (s .args .p) (s .args .age) (s .pre) ∙ simp (← c .before .is-undated .ensures, c .if1 .taken))
+
+returns-2 : tie.Need-returns-2
+returns-2 c =
+    let s = c .before .before .before .before in
+    sym (pension-lowest (s .args .head) (s .args .p) (s .args .age) (s .pre) ∙ simp (← c .before .before .before .is-undated .ensures, c .before .before .if1 .left, ← c .before .is-disordered .ensures, c .if2 .taken))
+
+returns-3 : tie.Need-returns-3
+returns-3 c =
+    let s = c .before .before .before .before .before .before in
+    sym (pension-lowest (s .args .head) (s .args .p) (s .args .age) (s .pre) ∙ simp (← c .before .before .before .before .before .is-undated .ensures, c .before .before .before .before .if1 .left, ← c .before .before .before .is-disordered .ensures, c .before .before .if2 .left, ← c .before .is-unknown-kind .ensures, c .if3 .taken))
+
+returns-4 : tie.Need-returns-4
+returns-4 c =
+    let s = c .before .before .before .before .before .before .before in
+    sym (pension-lowest (s .args .head) (s .args .p) (s .args .age) (s .pre) ∙ simp (← c .before .before .before .before .before .before .is-undated .ensures, c .before .before .before .before .before .if1 .left, ← c .before .before .before .before .is-disordered .ensures, c .before .before .before .if2 .left, ← c .before .before .is-unknown-kind .ensures, c .before .if3 .left, c .terms-refusal .ensures))
+
+pub pension-refusal-spec : {M : Type 1} → statement M
+pension-refusal-spec =
+    tie.close
+    (tie.spec (search needs) returns (search needs) returns-2 (search needs) returns-3 (search needs) returns-4)

@@ -1,0 +1,63 @@
+-- A pension of a case as the limits see it: the pension P after early payment, the factor E, and the cap ("Months and
+-- factors" and "Split" of document 01). Assumes nothing.
+use Prim.Native.Nat.{ℕ, _*_, _/_, min}
+use mathlib.Core.Bool.{Bool, cond, _&&_, _||_}
+use mathlib.Core.List.{List, map}
+use lib.Dec.{ltb, eqb}
+use Rattle.calendar.specs.Calendar.{months, sixtiethBirthday}
+use Rattle.factors.specs.declared.effective.Factor.{Factor}
+use Rattle.factors.specs.declared.effective.FactorTerms.{FactorTerms}
+use Rattle.factors.specs.Commutation.{commutationFactor}
+use Rattle.factors.specs.EarlyPayment.{reducedPension}
+use Rattle.factors.specs.Effective.{effectiveFactor}
+use Rattle.split.specs.declared.case.Head.{Head}
+use Rattle.split.specs.declared.case.Pension.{Pension}
+use Rattle.split.specs.declared.limits.Benefit.{Benefit}
+use Rattle.split.specs.Refusal.{ageOf, within}
+
+-- P: "Kind 3: below age 720 months the pension becomes stated pension × Table A ÷ 1,000, down, at the months from
+-- commencement to the 60th birthday. From 720 months on it is kept whole. All later steps use this pension."
+unfoldable pub workedPension : Head → Pension → ℕ
+workedPension h p =
+    cond (eqb (p .kind) 3 && ltb (ageOf h) 720)
+    (reducedPension (p .stated .0) (months (h .commencement) (sixtiethBirthday (h .birth))))
+    (p .stated .0)
+
+-- the terms with F1 as given or looked up
+unfoldable pub workedTerms : Head → Pension → FactorTerms
+workedTerms h p =
+    record {
+      f1 = commutationFactor (p .terms .f1) (ageOf h);
+      f2 = p .terms .f2;
+      f3 = p .terms .f3;
+      increase = p .terms .increase;
+    }
+
+-- E
+unfoldable pub factorOf : Head → Pension → Factor
+factorOf h p = effectiveFactor (p .kind) (workedTerms h p)
+
+-- "For kinds 1 and 2 with service from 300 to 359 months and flag 0": the two-and-a-quarter cap applies
+unfoldable pub limitedLump : Pension → Bool
+limitedLump p =
+    (eqb (p .kind) 1 || eqb (p .kind) 2) &&
+    (within 300 359 (months (p .service .start) (p .service .end)) && eqb (p .lift) 0)
+
+-- "P × E ÷ 4, down"
+unfoldable pub quarterLump : ℕ → Factor → ℕ
+quarterLump pension e = pension * e .top / (4 * e .bottom)
+
+-- "also at most 9P/4, down"
+unfoldable pub capOf : Bool → ℕ → Factor → ℕ
+capOf limited pension e = cond limited (min (quarterLump pension e) (9 * pension / 4)) (quarterLump pension e)
+
+unfoldable pub benefitOf : Head → Pension → Benefit
+benefitOf h p =
+    record {
+      pension = record { 0 = workedPension h p };
+      factor = factorOf h p;
+      cap = record { 0 = capOf (limitedLump p) (workedPension h p) (factorOf h p) };
+    }
+
+abbrev pub benefitsOf : Head → List Pension → List Benefit
+benefitsOf h ps = map (benefitOf h) ps

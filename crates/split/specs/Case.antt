@@ -1,0 +1,59 @@
+-- A case line's head and pensions ("Case line" of document 01), over any bytes. Assumes nothing.
+use Prim.Native.Nat.{ℕ, zero, suc, _+_, _*_}
+use mathlib.Core.List.{List, [], _∷_, _++_}
+use Rattle.calendar.specs.Calendar.{date}
+use Rattle.factors.specs.declared.effective.FactorTerms.{FactorTerms}
+use Rattle.split.specs.declared.case.Head.{Head}
+use Rattle.split.specs.declared.case.Service.{Service}
+use Rattle.split.specs.declared.case.Pension.{Pension}
+use Rattle.split.specs.Frame.{numberAt, dateAt}
+
+-- "Head: member number 4 bytes, birth date, commencement date, count n of pensions 1 byte"
+unfoldable pub headOf : List ℕ → Head
+headOf s =
+    record { member = numberAt s 0 8; birth = dateAt s 8; commencement = dateAt s 16; count = numberAt s 24 2 }
+
+-- "service start date, service end date"
+unfoldable pub serviceAt : List ℕ → ℕ → Service
+serviceAt s at = record { start = dateAt s at; end = dateAt s (at + 8) }
+
+-- "F1 2, F2 2, F3 2, PI 2"
+unfoldable pub termsAt : List ℕ → ℕ → FactorTerms
+termsAt s at =
+    record {
+      f1 = numberAt s at 4;
+      f2 = numberAt s (at + 4) 4;
+      f3 = numberAt s (at + 8) 4;
+      increase = numberAt s (at + 12) 4;
+    }
+
+-- "for each pension 22 bytes: kind 1, yearly pension 4, service .., lift flag 1, F1 2, F2 2, F3 2, PI 2"
+unfoldable pub pensionAt : List ℕ → ℕ → Pension
+pensionAt s at =
+    record {
+      kind = numberAt s at 2;
+      stated = record { 0 = numberAt s (at + 2) 8 };
+      service = serviceAt s (at + 10);
+      lift = numberAt s (at + 26) 2;
+      terms = termsAt s (at + 28);
+    }
+
+-- the pension that stands for none
+abbrev pub noPension : Pension
+noPension =
+    record {
+      kind = 0;
+      stated = record { 0 = 0 };
+      service = record { start = date 0 0 0; end = date 0 0 0 };
+      lift = 0;
+      terms = record { f1 = 0; f2 = 0; f3 = 0; increase = 0 };
+    }
+
+-- the first k pensions, after the head's 26 characters
+unfoldable pub pensionsAt : List ℕ → ℕ → List Pension
+pensionsAt s zero = []
+pensionsAt s (suc k) = pensionsAt s k ++ (pensionAt s (26 + 44 * k) ∷ [])
+
+-- the pensions of the line: as many as its head says
+abbrev pub pensionsOf : List ℕ → List Pension
+pensionsOf s = pensionsAt s (headOf s .count)

@@ -1,0 +1,53 @@
+-- The grant ("Grant" of document 01): lowest price first, equal prices in line order, each pension the most
+-- its cap and the remaining priced limit allow. Assumes nothing.
+use Prim.Native.Nat.{ℕ, zero, suc, _-_, _*_, _/_, min}
+use mathlib.Core.Bool.{Bool, true, false, cond, _&&_, _||_}
+use mathlib.Core.List.{List, [], _∷_, map}
+use lib.Dec.{leb, ltb, eqb}
+use lib.ListN.{length, getD, set}
+use Rattle.split.specs.declared.limits.Benefit.{Benefit}
+use Rattle.split.specs.declared.grant.Row.{Row}
+use Rattle.split.specs.Limits.{priceOf, pricedLimit}
+
+-- the row that stands for none
+abbrev pub noRow : Row
+noRow = record { price = 0; cap = record { 0 = 0 }; lump = record { 0 = 0 }; waiting = false }
+
+-- a pension before its turn
+abbrev pub rowOf : Benefit → Row
+rowOf b = record { price = priceOf (b .factor); cap = b .cap; lump = record { 0 = 0 }; waiting = true }
+
+-- the place of the first waiting row of the lowest price; the number of rows where none waits
+unfoldable pub cheapest : List Row → ℕ
+cheapest [] = 0
+cheapest (r ∷ rs) =
+    cond (r .waiting && (eqb (cheapest rs) (length rs) || leb (r .price) ((getD rs (cheapest rs) noRow) .price)))
+    0
+    (suc (cheapest rs))
+
+-- the most that a row's cap and what is left of the limit allow
+unfoldable pub most : Row → ℕ → ℕ
+most r left = min (r .cap .0) (left / r .price)
+
+-- the row with its lump, its turn past
+abbrev pub served : Row → ℕ → Row
+served r g = record { price = r .price; cap = r .cap; lump = record { 0 = g }; waiting = false }
+
+-- n turns, with what is left of the priced limit: each serves the cheapest row that waits
+unfoldable pub turns : ℕ → List Row → ℕ → List Row
+turns zero rs left = rs
+turns (suc n) rs left =
+    cond (ltb (cheapest rs) (length rs))
+    (turns n
+    (set rs (cheapest rs) (served (getD rs (cheapest rs) noRow) (most (getD rs (cheapest rs) noRow) left)))
+    (left - most (getD rs (cheapest rs) noRow) left * (getD rs (cheapest rs) noRow) .price))
+    rs
+
+-- the lumps of rows
+abbrev pub lumpsOf : List Row → List ℕ
+lumpsOf [] = []
+lumpsOf (r ∷ rs) = r .lump .0 ∷ lumpsOf rs
+
+-- the lumps granted, in line order: as many turns as there are pensions
+unfoldable pub grant : List Benefit → List ℕ
+grant bs = lumpsOf (turns (length bs) (map rowOf bs) (pricedLimit bs))

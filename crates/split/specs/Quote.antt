@@ -1,0 +1,81 @@
+-- The quote of a case line ("Split" and "Refusals from the input" of document 01). Assumes nothing.
+use Prim.Native.Nat.{ℕ, _-_, _*_, _/_}
+use mathlib.Core.Bool.{cond}
+use mathlib.Core.List.{List, [], _∷_, _++_}
+use mathlib.Core.Path.{_≡_}
+use lib.Dec.{eqb}
+use lib.ListN.{length, take, drop, replicate}
+use Rattle.factors.specs.declared.effective.Factor.{Factor}
+use Rattle.split.specs.declared.case.Head.{Head}
+use Rattle.split.specs.declared.case.Pension.{Pension}
+use Rattle.split.specs.declared.limits.Benefit.{Benefit}
+use Rattle.split.specs.declared.shares.Share.{Share}
+use Rattle.split.specs.declared.shares.Quote.{Quote}
+use Rattle.split.specs.Case.{headOf, pensionsOf}
+use Rattle.split.specs.Refusal.{refusalOf}
+use Rattle.split.specs.Benefits.{benefitOf, benefitsOf}
+use Rattle.split.specs.Limits.{total, Best}
+use Rattle.split.specs.Grant.{grant}
+
+-- "Pension given up: lump ÷ E, down; remaining is P less that"
+unfoldable pub remainingOf : Benefit → ℕ → ℕ
+remainingOf b lump = b .pension .0 - lump * b .factor .bottom / b .factor .top
+
+-- "Second instalment, kind 2: lump × PI ÷ 10,000, down; else 0"
+unfoldable pub secondOf : Pension → ℕ → ℕ
+secondOf p lump = cond (eqb (p .kind) 2) (lump * p .terms .increase / 10000) 0
+
+-- lump, remaining pension and second instalment of one pension
+unfoldable pub shareOf : Head → Pension → ℕ → Share
+shareOf h p lump =
+    record {
+      lump = record { 0 = lump };
+      remaining = record { 0 = remainingOf (benefitOf h p) lump };
+      second = record { 0 = secondOf p lump };
+    }
+
+abbrev pub noShare : Share
+noShare = record { lump = record { 0 = 0 }; remaining = record { 0 = 0 }; second = record { 0 = 0 } }
+
+-- the shares of pensions, each with its lump
+abbrev pub sharesOf : Head → List Pension → List ℕ → List Share
+sharesOf h [] xs = []
+sharesOf h (p ∷ ps) [] = []
+sharesOf h (p ∷ ps) (x ∷ xs) = shareOf h p x ∷ sharesOf h ps xs
+
+-- "zeros for pensions not there": four places
+abbrev pub padded : List Share → List Share
+padded shares = shares ++ replicate (4 - length shares) noShare
+
+-- the lumps granted to the case of a line
+unfoldable pub lumpsGranted : List ℕ → List ℕ
+lumpsGranted s = grant (benefitsOf (headOf s) (pensionsOf s))
+
+-- no refusal: the grant
+unfoldable pub grantedQuote : List ℕ → Quote
+grantedQuote s =
+    record {
+      refusal = 0;
+      member = headOf s .member;
+      total = record { 0 = total (lumpsGranted s) };
+      shares = padded (sharesOf (headOf s) (pensionsOf s) (lumpsGranted s));
+    }
+
+-- "All figures are zero"
+unfoldable pub refusedQuote : ℕ → Quote
+refusedQuote r = record { refusal = r; member = 0; total = record { 0 = 0 }; shares = replicate 4 noShare }
+
+-- the quote of a line
+unfoldable pub quoteOf : List ℕ → Quote
+quoteOf s = cond (eqb (refusalOf s) 0) (grantedQuote s) (refusedQuote (refusalOf s))
+
+-- the lumps of shares
+abbrev pub lumpsIn : List Share → List ℕ
+lumpsIn [] = []
+lumpsIn (x ∷ xs) = x .lump .0 ∷ lumpsIn xs
+
+-- What is claimed of four lumps for the case of a line: those of its pensions are the best split (see `Best`), and no
+-- other place has one.
+pub record BestLumps (s : List ℕ) (four : List ℕ) : Type 0 where
+  pub split : Best (benefitsOf (headOf s) (pensionsOf s)) (take (headOf s .count) four)
+  pub rest : drop (headOf s .count) four ≡ replicate (4 - headOf s .count) 0

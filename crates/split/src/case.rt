@@ -1,0 +1,132 @@
+// A case as its line has it: the head, and the pensions in an array of four places.
+use crate::frame::Cursor;
+use calendar::Date;
+use factors::effective::FactorTerms;
+use factors::money::YearlyPence;
+ghost use mathlib.Core.Path.{_≡_};
+ghost use Prim.Native.Nat.{_+_, _*_, _≤_};
+ghost use lib.ListN.{length, take};
+ghost use Rattle.split.specs.Case.{headOf, serviceAt, termsAt, pensionAt, pensionsAt};
+
+pub struct Head {
+    pub member: u32,
+    pub birth: Date,
+    pub commencement: Date,
+    pub count: u8,
+}
+
+pub struct Service {
+    pub start: Date,
+    pub end: Date,
+}
+
+pub struct Pension {
+    pub kind: u8,
+    pub stated: YearlyPence,
+    pub service: Service,
+    pub lift: u8,
+    pub terms: FactorTerms,
+}
+
+struct ServiceField {
+    pub value: Service,
+    pub next: Cursor,
+}
+
+pub fn read_head(line: &[u8]) -> Head
+    ensures { λ r. ⌜ r ≡ headOf (now (line .entry)) ⌝ }
+{
+    let start = Cursor { at: 0 };
+    let member = start.number(line);
+    let after_member = member.next;
+    let birth = after_member.date(line);
+    let after_birth = birth.next;
+    let commencement = after_birth.date(line);
+    let after_commencement = commencement.next;
+    let count = after_commencement.byte(line);
+    let born = birth.value;
+    let commences = commencement.value;
+    Head {
+        member: member.value,
+        birth: born,
+        commencement: commences,
+        count: count.value,
+    }
+}
+
+fn read_service(line: &[u8], at: Cursor) -> ServiceField
+    requires { ⌜ at .at ≤ 900 ⌝ }
+    ensures { λ r. ⌜ (r .value ≡ serviceAt (now (line .entry)) (at .at)) × (r .next .at ≡ at .at + 16) ⌝ }
+{
+    let start = at.date(line);
+    let after_start = start.next;
+    let end = after_start.date(line);
+    let next = end.next;
+    let first = start.value;
+    let last = end.value;
+    ServiceField {
+        value: Service {
+            start: first,
+            end: last,
+        },
+        next,
+    }
+}
+
+fn read_terms(line: &[u8], at: Cursor) -> FactorTerms
+    requires { ⌜ at .at ≤ 900 ⌝ }
+    ensures { λ r. ⌜ r ≡ termsAt (now (line .entry)) (at .at) ⌝ }
+{
+    let f1 = at.short(line);
+    let after_f1 = f1.next;
+    let f2 = after_f1.short(line);
+    let after_f2 = f2.next;
+    let f3 = after_f2.short(line);
+    let after_f3 = f3.next;
+    let increase = after_f3.short(line);
+    FactorTerms {
+        f1: f1.value,
+        f2: f2.value,
+        f3: f3.value,
+        increase: increase.value,
+    }
+}
+
+fn read_pension(line: &[u8], at: Cursor) -> Pension
+    requires { ⌜ at .at ≤ 800 ⌝ }
+    ensures { λ r. ⌜ r ≡ pensionAt (now (line .entry)) (at .at) ⌝ }
+{
+    let kind = at.byte(line);
+    let after_kind = kind.next;
+    let stated = after_kind.number(line);
+    let after_stated = stated.next;
+    let service = read_service(line, after_stated);
+    let after_service = service.next;
+    let lift = after_service.byte(line);
+    let after_lift = lift.next;
+    let terms = read_terms(line, after_lift);
+    let served = service.value;
+    Pension {
+        kind: kind.value,
+        stated: YearlyPence(stated.value),
+        service: served,
+        lift: lift.value,
+        terms,
+    }
+}
+
+// The first n pensions of a line, in as many places of the array.
+pub fn read_pensions(line: &[u8], n: usize) -> [Pension; 4]
+    requires { ⌜ n ≤ 4 ⌝ }
+    ensures { λ r. ⌜ (take n r ≡ pensionsAt (now (line .entry)) n) × (length r ≡ 4) ⌝ }
+{
+    let first = read_pension(line, Cursor { at: 26 });
+    let mut pensions = [first; 4];
+    let mut i = 0;
+    while i < n {
+        let pension = read_pension(line, Cursor { at: 26 + 44 * i });
+        pensions[i] = pension;
+        i += 1;
+    }
+    pensions
+}

@@ -1,0 +1,396 @@
+// The frame reader: fields of uppercase hexadecimal digits, highest first, taken one after the other.
+use calendar::Date;
+ghost use mathlib.Core.Path.{_≡_};
+ghost use Prim.Native.Nat.{_+_, _≤_, _<_};
+ghost use Rattle.split.specs.Frame.{hexValue, digitAt, numberAt, dateAt, badCharacter};
+
+// The value of each character, and 16 for one that is no digit.
+const HEX_VALUES: [u8; 256] = [
+    16,
+    16,
+    16,
+    16,
+    16,
+    16,
+    16,
+    16,
+    16,
+    16,
+    16,
+    16,
+    16,
+    16,
+    16,
+    16,
+    16,
+    16,
+    16,
+    16,
+    16,
+    16,
+    16,
+    16,
+    16,
+    16,
+    16,
+    16,
+    16,
+    16,
+    16,
+    16,
+    16,
+    16,
+    16,
+    16,
+    16,
+    16,
+    16,
+    16,
+    16,
+    16,
+    16,
+    16,
+    16,
+    16,
+    16,
+    16,
+    0,
+    1,
+    2,
+    3,
+    4,
+    5,
+    6,
+    7,
+    8,
+    9,
+    16,
+    16,
+    16,
+    16,
+    16,
+    16,
+    16,
+    10,
+    11,
+    12,
+    13,
+    14,
+    15,
+    16,
+    16,
+    16,
+    16,
+    16,
+    16,
+    16,
+    16,
+    16,
+    16,
+    16,
+    16,
+    16,
+    16,
+    16,
+    16,
+    16,
+    16,
+    16,
+    16,
+    16,
+    16,
+    16,
+    16,
+    16,
+    16,
+    16,
+    16,
+    16,
+    16,
+    16,
+    16,
+    16,
+    16,
+    16,
+    16,
+    16,
+    16,
+    16,
+    16,
+    16,
+    16,
+    16,
+    16,
+    16,
+    16,
+    16,
+    16,
+    16,
+    16,
+    16,
+    16,
+    16,
+    16,
+    16,
+    16,
+    16,
+    16,
+    16,
+    16,
+    16,
+    16,
+    16,
+    16,
+    16,
+    16,
+    16,
+    16,
+    16,
+    16,
+    16,
+    16,
+    16,
+    16,
+    16,
+    16,
+    16,
+    16,
+    16,
+    16,
+    16,
+    16,
+    16,
+    16,
+    16,
+    16,
+    16,
+    16,
+    16,
+    16,
+    16,
+    16,
+    16,
+    16,
+    16,
+    16,
+    16,
+    16,
+    16,
+    16,
+    16,
+    16,
+    16,
+    16,
+    16,
+    16,
+    16,
+    16,
+    16,
+    16,
+    16,
+    16,
+    16,
+    16,
+    16,
+    16,
+    16,
+    16,
+    16,
+    16,
+    16,
+    16,
+    16,
+    16,
+    16,
+    16,
+    16,
+    16,
+    16,
+    16,
+    16,
+    16,
+    16,
+    16,
+    16,
+    16,
+    16,
+    16,
+    16,
+    16,
+    16,
+    16,
+    16,
+    16,
+    16,
+    16,
+    16,
+    16,
+    16,
+    16,
+    16,
+    16,
+    16,
+    16,
+    16,
+    16,
+    16,
+    16,
+    16,
+    16,
+    16,
+    16,
+    16,
+    16,
+    16,
+    16,
+    16,
+    16,
+    16,
+    16,
+    16,
+    16,
+    16,
+    16,
+    16,
+    16,
+    16,
+    16,
+    16,
+    16,
+    16,
+    16,
+    16,
+    16,
+    16,
+];
+
+pub fn hex_value(character: u8) -> u8
+    ensures { λ r. ⌜ r ≡ hexValue character ⌝ }
+{
+    let at = character as usize;
+    HEX_VALUES[at]
+}
+
+// The digit at a place; 0 past the end and where the character is no digit.
+fn digit_at(line: &[u8], at: usize) -> u32
+    ensures { λ r. ⌜ (r ≡ digitAt (now (line .entry)) at) × (r < 16) ⌝ }
+{
+    if at < line.len() {
+        return (hex_value(line[at]) % 16) as u32;
+    }
+    0
+}
+
+// Whether some character of the line is no digit.
+pub fn has_bad_character(line: &[u8]) -> bool
+    ensures { λ r. ⌜ r ≡ badCharacter (now (line .entry)) ⌝ }
+{
+    let mut i = 0;
+    while i < line.len() {
+        if hex_value(line[i]) == 16 {
+            return true;
+        }
+        i += 1;
+    }
+    false
+}
+
+// A place in a line. Each method takes the next field and hands the cursor back moved on.
+pub struct Cursor {
+    pub at: usize,
+}
+
+pub struct ByteField {
+    pub value: u8,
+    pub next: Cursor,
+}
+
+pub struct ShortField {
+    pub value: u16,
+    pub next: Cursor,
+}
+
+pub struct NumberField {
+    pub value: u32,
+    pub next: Cursor,
+}
+
+pub struct DateField {
+    pub value: Date,
+    pub next: Cursor,
+}
+
+impl Cursor {
+    // The number of this many digits.
+    fn digits(self, line: &[u8], count: usize) -> NumberField
+        requires { ⌜ (self .at ≤ 1024) × (count ≤ 8) ⌝ }
+        ensures { λ r. ⌜ (r .value ≡ numberAt (now (line .entry)) (self .at) count) × (r .next .at ≡ self .at + count) ⌝ }
+    {
+        let at = self.at;
+        let mut value: u32 = 0;
+        let mut i = 0;
+        while i < count {
+            value = value * 16 + digit_at(line, at + i);
+            i += 1;
+        }
+        NumberField {
+            value,
+            next: Cursor { at: at + count },
+        }
+    }
+
+    // A number of one byte.
+    pub fn byte(self, line: &[u8]) -> ByteField
+        requires { ⌜ self .at ≤ 1024 ⌝ }
+        ensures { λ r. ⌜ (r .value ≡ numberAt (now (line .entry)) (self .at) 2) × (r .next .at ≡ self .at + 2) ⌝ }
+    {
+        let field = self.digits(line, 2);
+        let next = field.next;
+        ByteField {
+            value: field.value as u8,
+            next,
+        }
+    }
+
+    // A number of two bytes.
+    pub fn short(self, line: &[u8]) -> ShortField
+        requires { ⌜ self .at ≤ 1024 ⌝ }
+        ensures { λ r. ⌜ (r .value ≡ numberAt (now (line .entry)) (self .at) 4) × (r .next .at ≡ self .at + 4) ⌝ }
+    {
+        let field = self.digits(line, 4);
+        let next = field.next;
+        ShortField {
+            value: field.value as u16,
+            next,
+        }
+    }
+
+    // A number of four bytes.
+    pub fn number(self, line: &[u8]) -> NumberField
+        requires { ⌜ self .at ≤ 1024 ⌝ }
+        ensures { λ r. ⌜ (r .value ≡ numberAt (now (line .entry)) (self .at) 8) × (r .next .at ≡ self .at + 8) ⌝ }
+    {
+        self.digits(line, 8)
+    }
+
+    // A date: two bytes of year, one of month, one of day.
+    pub fn date(self, line: &[u8]) -> DateField
+        requires { ⌜ self .at ≤ 1000 ⌝ }
+        ensures { λ r. ⌜ (r .value ≡ dateAt (now (line .entry)) (self .at)) × (r .next .at ≡ self .at + 8) ⌝ }
+    {
+        let year = self.short(line);
+        let after_year = year.next;
+        let month = after_year.byte(line);
+        let after_month = month.next;
+        let day = after_month.byte(line);
+        let next = day.next;
+        DateField {
+            value: Date {
+                year: year.value,
+                month: month.value,
+                day: day.value,
+            },
+            next,
+        }
+    }
+}

@@ -1,0 +1,142 @@
+// The grant: lowest price first, equal prices in line order, each pension the most its cap and what is left of the
+// priced limit allow.
+use crate::limits;
+use crate::limits::Benefit;
+use factors::money::LumpPence;
+ghost use mathlib.Core.Path.{_≡_};
+ghost use mathlib.Core.List.{map};
+ghost use Prim.Native.Nat.{ℕ, _-_, _*_, _≤_, _<_};
+ghost use lib.ListN.{length, getD, take, set};
+ghost use Rattle.factors.proofs.Laws.{FactorRange};
+ghost use Rattle.split.specs.Limits.{noBenefit};
+ghost use Rattle.split.specs.Grant.{noRow, rowOf, cheapest, most, served, turns};
+
+// A pension in the grant: its price, its cap, the lump it has been given, and whether its turn is still to come.
+pub struct Row {
+    pub price: u64,
+    pub cap: LumpPence,
+    pub lump: LumpPence,
+    pub waiting: bool,
+}
+
+struct Served {
+    pub rows: [Row; 4],
+    pub left: u64,
+}
+
+// A pension before its turn.
+fn row_of(b: Benefit) -> Row
+    requires { ⌜ FactorRange (b .factor) ⌝ }
+    ensures { λ r. ⌜ r ≡ rowOf b ⌝ }
+{
+    let factor = b.factor;
+    let cap = b.cap;
+    Row {
+        price: limits::price_of(factor),
+        cap,
+        lump: LumpPence(0),
+        waiting: true,
+    }
+}
+
+// The rows of the first n pensions, none of which has had its turn.
+pub fn rows_of(benefits: [Benefit; 4], n: usize) -> [Row; 4]
+    requires { ⌜ (n ≤ 4) × ((j : ℕ) → j < n → FactorRange (getD benefits j noBenefit .factor)) ⌝ }
+    ensures { λ r. ⌜ (take n r ≡ map rowOf (take n benefits)) × (length r ≡ 4) ⌝ }
+{
+    let blank = Row {
+        price: 0,
+        cap: LumpPence(0),
+        lump: LumpPence(0),
+        waiting: false,
+    };
+    let mut rows = [blank; 4];
+    let mut i = 0;
+    while i < n {
+        let benefit = benefits[i];
+        let row = row_of(benefit);
+        rows[i] = row;
+        i += 1;
+    }
+    rows
+}
+
+// The place of the first waiting row of the lowest price among the first n; n where none waits.
+fn cheapest_row(rows: [Row; 4], n: usize) -> usize
+    requires { ⌜ n ≤ 4 ⌝ }
+    ensures { λ r. ⌜ r ≡ cheapest (take n rows) ⌝ }
+{
+    let mut best = n;
+    let mut i = n;
+    while 0 < i {
+        i -= 1;
+        let row = rows[i];
+        if row.waiting {
+            if best == n {
+                best = i;
+            } else {
+                let other = rows[best];
+                if row.price <= other.price {
+                    best = i;
+                }
+            }
+        }
+    }
+    best
+}
+
+// The most that a row's cap and what is left of the limit allow.
+fn most_of(row: Row, left: u64) -> u32
+    requires { ⌜ 0 < row .price ⌝ }
+    ensures { λ r. ⌜ r ≡ most row left ⌝ }
+{
+    let cap = row.cap.0 as u64;
+    let allowed = left / row.price;
+    if cap <= allowed {
+        return row.cap.0;
+    }
+    allowed as u32
+}
+
+// The row at a place has its turn.
+fn turn(rows: [Row; 4], place: usize, left: u64) -> Served
+    requires { ⌜ (place < 4) × (0 < getD rows place noRow .price) ⌝ }
+    ensures { λ r. ⌜ (r .rows ≡ set rows place (served (getD rows place noRow) (most (getD rows place noRow) left))) × (r .left ≡ left - most (getD rows place noRow) left * getD rows place noRow .price) ⌝ }
+{
+    let row = rows[place];
+    let lump = most_of(row, left);
+    let cap = row.cap;
+    let mut after = rows;
+    after[place] = Row {
+        price: row.price,
+        cap,
+        lump: LumpPence(lump),
+        waiting: false,
+    };
+    let spent = lump as u64 * row.price;
+    Served {
+        rows: after,
+        left: left - spent,
+    }
+}
+
+// The first n rows after as many turns.
+pub fn granted_rows(rows: [Row; 4], n: usize, limit: u64) -> [Row; 4]
+    requires { ⌜ (n ≤ 4) × ((j : ℕ) → j < n → 0 < getD rows j noRow .price) ⌝ }
+    ensures { λ r. ⌜ (take n r ≡ turns n (take n rows) limit) × (length r ≡ 4) ⌝ }
+{
+    let mut now = rows;
+    let mut left = limit;
+    let mut done = 0;
+    while done < n {
+        let place = cheapest_row(now, n);
+        if n <= place {
+            return now;
+        }
+        let next = turn(now, place, left);
+        now = next.rows;
+        left = next.left;
+        done += 1;
+    }
+    now
+}

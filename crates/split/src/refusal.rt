@@ -1,0 +1,233 @@
+// Refusals 1 to 10: the lowest condition that holds of a line.
+use crate::case::Head;
+use crate::case::Pension;
+use crate::frame;
+use factors::effective::FactorTerms;
+ghost use mathlib.Core.Path.{_≡_};
+ghost use mathlib.Core.Bool.{_||_};
+ghost use mathlib.Core.List.{[], _∷_};
+ghost use Prim.Native.Nat.{_≤_, _<_};
+ghost use lib.ListN.{length, take};
+ghost use Rattle.split.specs.Case.{headOf};
+ghost use Rattle.split.specs.Frame.{badCharacter};
+ghost use Rattle.split.specs.Refusal.{ageOf, badLength, undatedHead, undated, disordered, badAge, unknownKind, listedF1, noIncrease, listedIncrease, unlisted, wrongAge, noFactor, unstated, conditions, lowest, within};
+ghost use Rattle.split.specs.Parts.{lower, headConditions, pensionConditions};
+
+fn is_within(low: u32, high: u32, x: u32) -> bool
+    ensures { λ r. ⌜ r ≡ within low high x ⌝ }
+{
+    (low <= x) & (x <= high)
+}
+
+fn has_bad_length(characters: usize, n: u8) -> bool
+    ensures { λ r. ⌜ r ≡ badLength characters n ⌝ }
+{
+    let wanted = 26 + 44 * (n as usize);
+    let short = (characters == 70) | (characters == 114);
+    let long = (characters == 158) | (characters == 202);
+    !(short | long) | !(characters == wanted)
+}
+
+fn is_undated_head(head: Head) -> bool
+    ensures { λ r. ⌜ r ≡ undatedHead head ⌝ }
+{
+    let birth = head.birth;
+    let commencement = head.commencement;
+    !calendar::in_calendar(birth) | !calendar::in_calendar(commencement)
+}
+
+fn is_undated(p: Pension) -> bool
+    ensures { λ r. ⌜ r ≡ undated p ⌝ }
+{
+    let service = p.service;
+    let start = service.start;
+    let end = service.end;
+    !calendar::in_calendar(start) | !calendar::in_calendar(end)
+}
+
+fn is_disordered(head: Head, p: Pension) -> bool
+    ensures { λ r. ⌜ r ≡ disordered head p ⌝ }
+{
+    let birth = head.birth;
+    let commencement = head.commencement;
+    let service = p.service;
+    let start = service.start;
+    let end = service.end;
+    let born = calendar::is_earlier(birth, start);
+    let ended = calendar::is_earlier(end, start);
+    let commenced = calendar::is_earlier(commencement, end);
+    !born | (ended | commenced)
+}
+
+fn is_bad_age(age: u32) -> bool
+    ensures { λ r. ⌜ r ≡ badAge age ⌝ }
+{
+    !is_within(216, 1199, age)
+}
+
+fn is_unknown_kind(p: Pension) -> bool
+    ensures { λ r. ⌜ r ≡ unknownKind p ⌝ }
+{
+    !is_within(1, 3, p.kind as u32)
+}
+
+fn is_listed_f1(t: FactorTerms) -> bool
+    ensures { λ r. ⌜ r ≡ listedF1 t ⌝ }
+{
+    let zero = t.f1 == 0;
+    zero | is_within(500, 4000, t.f1 as u32)
+}
+
+fn has_no_increase(t: FactorTerms) -> bool
+    ensures { λ r. ⌜ r ≡ noIncrease t ⌝ }
+{
+    let f2 = t.f2 == 0;
+    let f3 = t.f3 == 0;
+    let increase = t.increase == 0;
+    f2 & (f3 & increase)
+}
+
+fn has_listed_increase(t: FactorTerms) -> bool
+    ensures { λ r. ⌜ r ≡ listedIncrease t ⌝ }
+{
+    let f2 = is_within(500, 4000, t.f2 as u32);
+    let f3 = is_within(1, 1000, t.f3 as u32);
+    let increase = is_within(1, 10000, t.increase as u32);
+    f2 & (f3 & increase)
+}
+
+fn is_unlisted(p: Pension) -> bool
+    ensures { λ r. ⌜ r ≡ unlisted p ⌝ }
+{
+    let terms = p.terms;
+    if p.kind == 1 {
+        return !((p.lift <= 1) & (is_listed_f1(terms) & has_no_increase(terms)));
+    }
+    if p.kind == 2 {
+        return !((p.lift <= 1) & (is_listed_f1(terms) & has_listed_increase(terms)));
+    }
+    !((p.lift == 0) & ((terms.f1 == 0) & has_no_increase(terms)))
+}
+
+fn is_wrong_age(age: u32, p: Pension) -> bool
+    ensures { λ r. ⌜ r ≡ wrongAge age p ⌝ }
+{
+    let second = p.kind == 2;
+    let third = p.kind == 3;
+    second & (660 <= age) | third & (age < 660)
+}
+
+fn has_no_factor(age: u32, p: Pension) -> bool
+    ensures { λ r. ⌜ r ≡ noFactor age p ⌝ }
+{
+    let terms = p.terms;
+    let first = p.kind == 1;
+    let second = p.kind == 2;
+    let zero = terms.f1 == 0;
+    (first | second) & (zero & !is_within(636, 875, age))
+}
+
+fn is_unstated(p: Pension) -> bool
+    ensures { λ r. ⌜ r ≡ unstated p ⌝ }
+{
+    p.stated.0 == 0
+}
+
+// The lowest condition that the head alone breaks.
+fn head_refusal(head: Head, age: u32) -> u8
+    requires { ⌜ age ≡ ageOf head ⌝ }
+    ensures { λ r. ⌜ r ≡ lowest 3 (headConditions head) ⌝ }
+{
+    if is_undated_head(head) {
+        return 3;
+    }
+    if is_bad_age(age) {
+        return 5;
+    }
+    0
+}
+
+// The lowest condition that a pension breaks.
+fn pension_refusal(head: Head, age: u32, p: Pension) -> u8
+    requires { ⌜ age ≡ ageOf head ⌝ }
+    ensures { λ r. ⌜ r ≡ lowest 3 (pensionConditions head p) ⌝ }
+{
+    if is_undated(p) {
+        return 3;
+    }
+    if is_disordered(head, p) {
+        return 4;
+    }
+    if is_unknown_kind(p) {
+        return 6;
+    }
+    terms_refusal(age, p)
+}
+
+// The same of the conditions after the kind.
+fn terms_refusal(age: u32, p: Pension) -> u8
+    ensures { λ r. ⌜ r ≡ lowest 7 (unlisted p ∷ wrongAge age p ∷ noFactor age p ∷ unstated p ∷ []) ⌝ }
+{
+    if is_unlisted(p) {
+        return 7;
+    }
+    if is_wrong_age(age, p) {
+        return 8;
+    }
+    if has_no_factor(age, p) {
+        return 9;
+    }
+    if is_unstated(p) {
+        return 10;
+    }
+    0
+}
+
+// The lower of two refusals, of which 0 is none.
+fn lower_of(a: u8, b: u8) -> u8
+    ensures { λ r. ⌜ r ≡ lower a b ⌝ }
+{
+    if a == 0 {
+        return b;
+    }
+    if b == 0 {
+        return a;
+    }
+    if a <= b { a } else { b }
+}
+
+// Refusals 1 and 2: the characters, and how many there are.
+pub fn frame_refusal(line: &[u8], n: u8) -> u8
+    ensures { λ r. ⌜ r ≡ lowest 1 (badCharacter (now (line .entry)) ∷ badLength (length (now (line .entry))) n ∷ []) ⌝ }
+{
+    if frame::has_bad_character(line) {
+        return 1;
+    }
+    if has_bad_length(line.len(), n) {
+        return 2;
+    }
+    0
+}
+
+// Refusals 3 to 10 of a case with n pensions.
+pub fn case_refusal(head: Head, pensions: [Pension; 4], n: usize) -> u8
+    requires { ⌜ n ≤ 4 ⌝ }
+    ensures { λ r. ⌜ r ≡ lowest 3 (conditions head (take n pensions)) ⌝ }
+{
+    let birth = head.birth;
+    let commencement = head.commencement;
+    let age = calendar::months_between(birth, commencement);
+    let mut refusal = head_refusal(head, age);
+    let mut total: u64 = 0;
+    let mut i = 0;
+    while i < n {
+        let pension = pensions[i];
+        refusal = lower_of(refusal, pension_refusal(head, age, pension));
+        total += pension.stated.0 as u64;
+        i += 1;
+    }
+    if 50000000 < total {
+        return lower_of(refusal, 10);
+    }
+    refusal
+}
