@@ -19,7 +19,7 @@ use Rattle.factors.specs.Effective.{lumpTop, lumpBottom, effectiveFactor
 use Rattle.factors.proofs.Table.{below, below-at}
 
 -- two bounds that were tested together
-within : (low high x : ℕ) → (leb low x && leb x high) ≡ true → (low ≤ x) × (x ≤ high)
+pub within : (low high x : ℕ) → (leb low x && leb x high) ≡ true → (low ≤ x) × (x ≤ high)
 within low high x t = (leb-true low x (and-left (leb low x) _ t), leb-true x high (and-right (leb low x) _ t))
 
 -- Table 1 at the ages it holds

@@ -5,7 +5,7 @@ use native.Mathlib.Nat.{mod-lt, pow-suc, pow-zero, pow-le-pow-right, lt-of-lt-of
 use native.Mathlib.Numerals.{add-one}
 use native.Mathlib.Omega.{arith}
 use mathlib.Core.List.{List}
-use lib.Dec.{lit<}
+use lib.ListN.{length, List·getD-eq-default}
 use Rattle.split.specs.Frame.{digitAt, numberAt, hexValue}
 
 pub digit-below : (s : List ℕ) (at : ℕ) → digitAt s at < 16
@@ -26,3 +26,10 @@ number-room s at n h =
 pub number-more : (s : List ℕ) (at n : ℕ) → numberAt s at n * 16 + digitAt s (at + n) ≡ numberAt s at (n + 1)
 unfolding numberAt
 number-more s at n = rw add-one
+
+-- past the end there are only zeros
+pub number-past : (s : List ℕ) (at n : ℕ) → length s ≤ at → numberAt s at n ≡ 0
+unfolding numberAt digitAt hexValue
+number-past s at zero h = refl
+number-past s at (suc n) h =
+    simp (number-past s at n h, List·getD-eq-default s 0 {n = at + n} (omega arith))

@@ -1,29 +1,20 @@
--- Laws of the grant's loops: the rows of the pensions grow by one, the cheapest row is found from the end, and a turn of
--- the array is a turn of its first rows. Assumes nothing.
+-- Laws of the grant's loops: the cheapest row is found from the end, a turn of the array is a turn of its first rows,
+-- and as many turns as there are pensions are the grant. Assumes nothing.
 use Prim.Native.Nat.{ℕ, zero, suc, _+_, _-_, _*_, _≤_, _<_}
 use mathlib.Core.Bool.{Bool, true, false, cond, _&&_, _||_}
-use mathlib.Core.List.{List, [], _∷_, map, map-append}
+use mathlib.Core.List.{List, [], _∷_, map}
 use mathlib.Core.Path.{_≡_, refl, sym, _∙_, ap}
-use native.Mathlib.Numerals.{add-one}
 use native.Mathlib.Omega.{arith}
 use lib.Dec.{leb, eqb}
-use lib.ListN.{length, getD, take, drop, set, length-take, length-drop, drop-of-length-le, List·getD-map}
-use lib.Seq.{drop-cons, take-suc, take-set-lt, getD-take, getD-drop, length-take-le, map-set-same}
+use lib.ListN.{length, getD, take, drop, length-take, length-drop, drop-of-length-le, List·getD-map}
+use lib.Seq.{drop-cons, take-set-lt, getD-take, getD-drop, length-take-le, map-set-same}
 use borrow.Author.Tests.{lt-ltb, le-ltb, le-leb, lt-leb, eqb-false, ne-eqb}
 use Rattle.split.specs.declared.limits.Benefit.{Benefit}
 use Rattle.split.specs.declared.grant.Row.{Row}
-use Rattle.split.specs.Limits.{noBenefit}
-use Rattle.split.specs.Grant.{noRow, rowOf, served, cheapest, most, turns}
-use Rattle.split.proofs.ListLaws.{take-set-more}
+use Rattle.split.specs.Limits.{pricedLimit}
+use Rattle.split.specs.Grant.{noRow, rowOf, served, cheapest, most, turns, lumpsOf, grant}
+use Rattle.split.proofs.Prices.{price-floor}
 use Rattle.split.proofs.Rows.{rowAt, serve, cheapest-lowest}
-
--- a row made of the next pension and stored at its place
-pub rows-stored : (bs : List Benefit) (rs : List Row) (k : ℕ) (r : Row) → k < length rs → k < length bs
-    → take k rs ≡ map rowOf (take k bs) → r ≡ rowOf (getD bs k noBenefit)
-    → take (k + 1) (set rs k r) ≡ map rowOf (take (k + 1) bs)
-rows-stored bs rs k r h g t e =
-    rw (take-set-more rs k r h, t, e, add-one, take-suc bs k noBenefit g)
-    (sym (map-append rowOf (take k bs) (getD bs k noBenefit ∷ [])))
 
 -- the first row is the cheapest where it waits and none behind it is cheaper
 cheapest-here : (r : Row) (rs : List Row) → r .waiting ≡ true
@@ -133,3 +124,21 @@ unfolding turns
 turns-idle n zero left rs h = refl
 turns-idle n (suc m) left rs h =
     rw (le-ltb (cheapest (take n rs)) (length (take n rs)) (rw length-take (omega arith)))
+
+-- rows of pensions have positive prices
+pub rows-priced : (bs : List Benefit) (rs : List Row) (n : ℕ) → n ≤ length bs → take n rs ≡ map rowOf (take n bs)
+    → (j : ℕ) → j < n → 0 < (rowAt rs j) .price
+rows-priced bs rs n whole e j h =
+    rw (← getD-take n rs j noRow h, e) (go (take n bs) j (rw (length-take-le n bs whole) h))
+  where
+    go : (l : List Benefit) (k : ℕ) → k < length l → 0 < (rowAt (map rowOf l) k) .price
+    go [] k p = absurd (omega arith)
+    go (b ∷ l) zero p = omega (arith, price-floor (b .factor))
+    go (b ∷ l) (suc k) p = go l k (omega arith)
+
+-- as many turns of the first n rows as there are pensions are the grant
+pub granted : (bs : List Benefit) (n limit : ℕ) (rs after : List Row) → n ≤ length bs
+    → take n rs ≡ map rowOf (take n bs) → limit ≡ pricedLimit (take n bs) → take n after ≡ turns n (take n rs) limit
+    → lumpsOf (take n after) ≡ grant (take n bs)
+unfolding grant
+granted bs n limit rs after whole made l e = rw (length-take-le n bs whole, e, made, l)

@@ -1,11 +1,16 @@
+pub mod AcceptedLaws
 pub mod Best
 pub mod CaseLaws
+pub mod Figures
 pub mod FrameLaws
 pub mod GrantLaws
 pub mod Level
+pub mod LimitLaws
 pub mod ListLaws
 pub mod Prices
+pub mod QuoteLaws
 pub mod RefusalLaws
 pub mod Rows
 pub mod Served
+pub mod ShareLaws
 pub mod Turns

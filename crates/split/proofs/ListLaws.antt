@@ -1,10 +1,11 @@
--- Laws of lists for loops that go through one or fill one: `any` by the next element or by one more at the end, and
--- a part that grows by a store. Assumes nothing.
+-- Laws of lists for loops that go through one or fill one: `any` by the next element or by one more at the end, what a
+-- test that holds of none says of each, and a part that grows by a store. Assumes nothing.
 use mathlib.Core.Path.{_≡_, refl, sym, _∙_, ap}
-use mathlib.Core.Bool.{Bool, true, false, _||_, or-false, or-assoc}
-use mathlib.Core.List.{List, [], _∷_, _++_}
-use Prim.Native.Nat.{ℕ, suc, _+_, _<_, _≤_}
+use mathlib.Core.Bool.{Bool, true, false, _||_, or-false, or-assoc, true≢false}
+use mathlib.Core.List.{List, [], _∷_, _++_, map, map-append}
+use Prim.Native.Nat.{ℕ, zero, suc, _+_, _<_, _≤_}
 use native.Mathlib.Numerals.{add-one}
+use native.Mathlib.Omega.{arith}
 use lib.ListN.{length, getD, take, drop, set, drop-of-length-le}
 use lib.Seq.{drop-cons, take-suc, take-suc-set}
 use Rattle.split.specs.Frame.{any}
@@ -31,6 +32,22 @@ pub any-snoc : {A : Type 0} (f : A → Bool) (l : List A) (x : A) → any f (l +
 any-snoc f [] x = or-false (f x)
 any-snoc f (y ∷ l) x = ap (λ (b : Bool). f y || b) (any-snoc f l x) ∙ sym (or-assoc (f y) (any f l) (f x))
 
+-- both parts of an alternative that fails
+pub or-left : (a b : Bool) → (a || b) ≡ false → a ≡ false
+or-left true b e = e
+or-left false b e = refl
+
+pub or-right : (a b : Bool) → (a || b) ≡ false → b ≡ false
+or-right true b e = absurd (true≢false e)
+or-right false b e = e
+
+-- a test that holds of no element fails of each
+pub any-none : {A : Type 0} (f : A → Bool) (l : List A) (d : A) → any f l ≡ false → (j : ℕ) → j < length l
+    → f (getD l j d) ≡ false
+any-none f [] d e j h = absurd (omega arith)
+any-none f (x ∷ l) d e zero h = or-left (f x) (any f l) e
+any-none f (x ∷ l) d e (suc j) h = any-none f l d (or-right (f x) (any f l) e) j (omega arith)
+
 -- a store just past a part makes the part one longer
 pub take-set-more : {A : Type 0} (l : List A) (i : ℕ) (x : A) → i < length l → take (i + 1) (set l i x) ≡ take i l ++ (x ∷ [])
 take-set-more l i x h = rw add-one (take-suc-set l i x h)
@@ -38,3 +55,10 @@ take-set-more l i x h = rw add-one (take-suc-set l i x h)
 -- a part and the next element are the longer part
 pub take-next : {A : Type 0} (l : List A) (i : ℕ) (d : A) → i < length l → take (i + 1) l ≡ take i l ++ (getD l i d ∷ [])
 take-next l i d h = rw add-one (take-suc l i d h)
+
+-- what is made of the next element and stored at its place makes the filled part one longer
+pub map-stored : {A B : Type 0} (f : A → B) (xs : List A) (ys : List B) (i : ℕ) (d : A) (y : B) → i < length xs
+    → i < length ys → take i ys ≡ map f (take i xs) → y ≡ f (getD xs i d)
+    → take (i + 1) (set ys i y) ≡ map f (take (i + 1) xs)
+map-stored f xs ys i d y h g t e =
+    rw (take-set-more ys i y g, t, e, take-next xs i d h) (sym (map-append f (take i xs) (getD xs i d ∷ [])))

@@ -10,7 +10,7 @@ use Rattle.split.specs.declared.limits.Benefit.{Benefit}
 use Rattle.split.specs.Limits.{total, priceOf, totalCap, WithinCaps, spend, pricedLimit, KeepsPriced, tops, exactCost}
 use Rattle.split.specs.Limits.{KeepsExact, PositiveTops}
 
-ruleset ring = (Nat.add-mul, Nat.mul-add, Nat.mul-assoc, Nat.mul-comm, Nat.mul-left-comm)
+pub ruleset ring = (Nat.add-mul, Nat.mul-add, Nat.mul-assoc, Nat.mul-comm, Nat.mul-left-comm)
 
 -- every price is at least three billion billionths
 pub price-floor : (e : Factor) → 3000000000 ≤ priceOf e

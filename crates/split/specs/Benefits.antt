@@ -23,19 +23,14 @@ workedPension h p =
     (reducedPension (p .stated .0) (months (h .commencement) (sixtiethBirthday (h .birth))))
     (p .stated .0)
 
--- the terms with F1 as given or looked up
-unfoldable pub workedTerms : Head → Pension → FactorTerms
-workedTerms h p =
-    record {
-      f1 = commutationFactor (p .terms .f1) (ageOf h);
-      f2 = p .terms .f2;
-      f3 = p .terms .f3;
-      increase = p .terms .increase;
-    }
+-- the terms with F1 as given or looked up at the age
+unfoldable pub workedTerms : ℕ → FactorTerms → FactorTerms
+workedTerms age t =
+    record { f1 = commutationFactor (t .f1) age; f2 = t .f2; f3 = t .f3; increase = t .increase }
 
 -- E
-unfoldable pub factorOf : Head → Pension → Factor
-factorOf h p = effectiveFactor (p .kind) (workedTerms h p)
+unfoldable pub factorOf : ℕ → Pension → Factor
+factorOf age p = effectiveFactor (p .kind) (workedTerms age (p .terms))
 
 -- "For kinds 1 and 2 with service from 300 to 359 months and flag 0": the two-and-a-quarter cap applies
 unfoldable pub limitedLump : Pension → Bool
@@ -55,8 +50,8 @@ unfoldable pub benefitOf : Head → Pension → Benefit
 benefitOf h p =
     record {
       pension = record { 0 = workedPension h p };
-      factor = factorOf h p;
-      cap = record { 0 = capOf (limitedLump p) (workedPension h p) (factorOf h p) };
+      factor = factorOf (ageOf h) p;
+      cap = record { 0 = capOf (limitedLump p) (workedPension h p) (factorOf (ageOf h) p) };
     }
 
 abbrev pub benefitsOf : Head → List Pension → List Benefit

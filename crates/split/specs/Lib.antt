@@ -1,5 +1,6 @@
 pub mod Benefits
 pub mod Case
+pub mod Figures
 pub mod Frame
 pub mod Grant
 pub mod Limits

@@ -1,5 +1,5 @@
 -- The quote of a case line ("Split" and "Refusals from the input" of document 01). Assumes nothing.
-use Prim.Native.Nat.{ℕ, _-_, _*_, _/_}
+use Prim.Native.Nat.{ℕ, _-_, _*_, _/_, _<_}
 use mathlib.Core.Bool.{cond}
 use mathlib.Core.List.{List, [], _∷_, _++_}
 use mathlib.Core.Path.{_≡_}
@@ -47,18 +47,18 @@ sharesOf h (p ∷ ps) (x ∷ xs) = shareOf h p x ∷ sharesOf h ps xs
 abbrev pub padded : List Share → List Share
 padded shares = shares ++ replicate (4 - length shares) noShare
 
--- the lumps granted to the case of a line
-unfoldable pub lumpsGranted : List ℕ → List ℕ
-lumpsGranted s = grant (benefitsOf (headOf s) (pensionsOf s))
+-- the lumps granted to a case
+unfoldable pub lumpsGranted : Head → List Pension → List ℕ
+lumpsGranted h ps = grant (benefitsOf h ps)
 
 -- no refusal: the grant
-unfoldable pub grantedQuote : List ℕ → Quote
-grantedQuote s =
+unfoldable pub grantedQuote : Head → List Pension → Quote
+grantedQuote h ps =
     record {
       refusal = 0;
-      member = headOf s .member;
-      total = record { 0 = total (lumpsGranted s) };
-      shares = padded (sharesOf (headOf s) (pensionsOf s) (lumpsGranted s));
+      member = h .member;
+      total = record { 0 = total (lumpsGranted h ps) };
+      shares = padded (sharesOf h ps (lumpsGranted h ps));
     }
 
 -- "All figures are zero"
@@ -67,15 +67,28 @@ refusedQuote r = record { refusal = r; member = 0; total = record { 0 = 0 }; sha
 
 -- the quote of a line
 unfoldable pub quoteOf : List ℕ → Quote
-quoteOf s = cond (eqb (refusalOf s) 0) (grantedQuote s) (refusedQuote (refusalOf s))
+quoteOf s = cond (eqb (refusalOf s) 0) (grantedQuote (headOf s) (pensionsOf s)) (refusedQuote (refusalOf s))
 
 -- the lumps of shares
 abbrev pub lumpsIn : List Share → List ℕ
 lumpsIn [] = []
 lumpsIn (x ∷ xs) = x .lump .0 ∷ lumpsIn xs
 
--- What is claimed of four lumps for the case of a line: those of its pensions are the best split (see `Best`), and no
--- other place has one.
-pub record BestLumps (s : List ℕ) (four : List ℕ) : Type 0 where
+-- What is claimed of four lumps and their sum for the case of a line: those of its pensions are the best split (see
+-- `Best`), no other place has one, and the sum is theirs.
+pub record BestLumps (s : List ℕ) (four : List ℕ) (sum : ℕ) : Type 0 where
   pub split : Best (benefitsOf (headOf s) (pensionsOf s)) (take (headOf s .count) four)
   pub rest : drop (headOf s .count) four ≡ replicate (4 - headOf s .count) 0
+  pub summed : sum ≡ total (take (headOf s .count) four)
+
+-- Every figure of a quote fits 32 bits, and there are four shares.
+abbrev pub SharesFit : List Share → Type 0
+SharesFit [] = Unit
+SharesFit (x ∷ xs) =
+    (x .lump .0 < 4294967296) × (x .remaining .0 < 4294967296) × (x .second .0 < 4294967296) × SharesFit xs
+
+pub record QuoteFits (q : Quote) : Type 0 where
+  pub member : q .member < 4294967296
+  pub total : q .total .0 < 4294967296
+  pub four : length (q .shares) ≡ 4
+  pub shares : SharesFit (q .shares)

@@ -1,7 +1,7 @@
 // The frame reader: fields of uppercase hexadecimal digits, highest first, taken one after the other.
 use calendar::Date;
 ghost use mathlib.Core.Path.{_≡_};
-ghost use Prim.Native.Nat.{_+_, _≤_, _<_};
+ghost use Prim.Native.Nat.{_+_, _^_, _≤_, _<_};
 ghost use Rattle.split.specs.Frame.{hexValue, digitAt, numberAt, dateAt, badCharacter};
 
 // The value of each character, and 16 for one that is no digit.
@@ -323,7 +323,7 @@ pub struct DateField {
 impl Cursor {
     // The number of this many digits.
     fn digits(self, line: &[u8], count: usize) -> NumberField
-        requires { ⌜ (self .at ≤ 1024) × (count ≤ 8) ⌝ }
+        requires { ⌜ (self .at ≤ 2 ^ 63) × (count ≤ 8) ⌝ }
         ensures { λ r. ⌜ (r .value ≡ numberAt (now (line .entry)) (self .at) count) × (r .next .at ≡ self .at + count) ⌝ }
     {
         let at = self.at;
@@ -367,7 +367,7 @@ impl Cursor {
 
     // A number of four bytes.
     pub fn number(self, line: &[u8]) -> NumberField
-        requires { ⌜ self .at ≤ 1024 ⌝ }
+        requires { ⌜ self .at ≤ 2 ^ 63 ⌝ }
         ensures { λ r. ⌜ (r .value ≡ numberAt (now (line .entry)) (self .at) 8) × (r .next .at ≡ self .at + 8) ⌝ }
     {
         self.digits(line, 8)
@@ -393,4 +393,16 @@ impl Cursor {
             next,
         }
     }
+}
+
+// The number of four bytes at a place of any bytes.
+pub fn number_at(line: &[u8], at: usize) -> u32
+    ensures { λ r. ⌜ r ≡ numberAt (now (line .entry)) at 8 ⌝ }
+{
+    if at < line.len() {
+        let cursor = Cursor { at };
+        let field = cursor.number(line);
+        return field.value;
+    }
+    0
 }

@@ -8,8 +8,8 @@ ghost use mathlib.Core.List.{map};
 ghost use Prim.Native.Nat.{ℕ, _-_, _*_, _≤_, _<_};
 ghost use lib.ListN.{length, getD, take, set};
 ghost use Rattle.factors.proofs.Laws.{FactorRange};
-ghost use Rattle.split.specs.Limits.{noBenefit};
-ghost use Rattle.split.specs.Grant.{noRow, rowOf, cheapest, most, served, turns};
+ghost use Rattle.split.specs.Limits.{noBenefit, totalPension};
+ghost use Rattle.split.specs.Grant.{noRow, rowOf, cheapest, most, served, turns, lumpsOf, grant};
 
 // A pension in the grant: its price, its cap, the lump it has been given, and whether its turn is still to come.
 pub struct Row {
@@ -40,7 +40,7 @@ fn row_of(b: Benefit) -> Row
 }
 
 // The rows of the first n pensions, none of which has had its turn.
-pub fn rows_of(benefits: [Benefit; 4], n: usize) -> [Row; 4]
+fn rows_of(benefits: [Benefit; 4], n: usize) -> [Row; 4]
     requires { ⌜ (n ≤ 4) × ((j : ℕ) → j < n → FactorRange (getD benefits j noBenefit .factor)) ⌝ }
     ensures { λ r. ⌜ (take n r ≡ map rowOf (take n benefits)) × (length r ≡ 4) ⌝ }
 {
@@ -121,7 +121,7 @@ fn turn(rows: [Row; 4], place: usize, left: u64) -> Served
 }
 
 // The first n rows after as many turns.
-pub fn granted_rows(rows: [Row; 4], n: usize, limit: u64) -> [Row; 4]
+fn granted_rows(rows: [Row; 4], n: usize, limit: u64) -> [Row; 4]
     requires { ⌜ (n ≤ 4) × ((j : ℕ) → j < n → 0 < getD rows j noRow .price) ⌝ }
     ensures { λ r. ⌜ (take n r ≡ turns n (take n rows) limit) × (length r ≡ 4) ⌝ }
 {
@@ -139,4 +139,14 @@ pub fn granted_rows(rows: [Row; 4], n: usize, limit: u64) -> [Row; 4]
         done += 1;
     }
     now
+}
+
+// The first n pensions with the lumps granted.
+pub fn grant_of(benefits: [Benefit; 4], n: usize) -> [Row; 4]
+    requires { ⌜ (n ≤ 4) × ((j : ℕ) → j < n → FactorRange (getD benefits j noBenefit .factor)) × (totalPension (take n benefits) ≤ 50000000) ⌝ }
+    ensures { λ r. ⌜ (lumpsOf (take n r) ≡ grant (take n benefits)) × (length r ≡ 4) ⌝ }
+{
+    let rows = rows_of(benefits, n);
+    let limit = limits::priced_limit(benefits, n);
+    granted_rows(rows, n, limit)
 }

@@ -3,5 +3,30 @@ mod case;
 mod frame;
 mod grant;
 mod limits;
+mod quoting;
 mod refusal;
 pub mod shares;
+
+pub use frame::hex_value;
+pub use frame::number_at;
+use shares::Quote;
+ghost use mathlib.Core.Path.{_≡_};
+ghost use Rattle.split.specs.Quote.{quoteOf};
+
+// The quote of a case line, whatever its bytes: the refusal with zero figures, or the grant.
+pub fn quote(line: &[u8]) -> Quote
+    ensures { λ r. ⌜ r ≡ quoteOf (now (line .entry)) ⌝ }
+{
+    let head = case::read_head(line);
+    let framed = refusal::frame_refusal(line, head.count);
+    if framed != 0 {
+        return quoting::refused_quote(framed);
+    }
+    let n = head.count as usize;
+    let pensions = case::read_pensions(line, n);
+    let refused = refusal::case_refusal(head, pensions, n);
+    if refused != 0 {
+        return quoting::refused_quote(refused);
+    }
+    quoting::granted_quote(head, pensions, n)
+}

@@ -1,11 +1,18 @@
 // The limits of a split: worked-down pensions, caps, prices and the priced limit.
+use crate::case::Head;
+use crate::case::Pension;
 use factors::effective::Factor;
+use factors::effective::FactorTerms;
 use factors::money::LumpPence;
 use factors::money::YearlyPence;
 ghost use mathlib.Core.Path.{_≡_};
-ghost use Prim.Native.Nat.{_≤_, _<_};
+ghost use Prim.Native.Nat.{ℕ, _*_, _≤_, _<_};
+ghost use lib.ListN.{length, getD, take};
 ghost use Rattle.factors.proofs.Laws.{FactorRange};
-ghost use Rattle.split.specs.Limits.{priceOf};
+ghost use Rattle.split.specs.Case.{noPension};
+ghost use Rattle.split.specs.Refusal.{ageOf};
+ghost use Rattle.split.specs.Benefits.{workedPension, workedTerms, factorOf, limitedLump, quarterLump, capOf, benefitOf, benefitsOf};
+ghost use Rattle.split.specs.Limits.{priceOf, totalPension, pricedLimit};
 
 // A pension of a case as the limits see it: P, E and the cap.
 pub struct Benefit {
@@ -14,10 +21,130 @@ pub struct Benefit {
     pub cap: LumpPence,
 }
 
+// P: a 2015 pension before age 60 is reduced for early payment, any other is kept whole.
+fn worked_pension(head: Head, age: u32, p: Pension) -> YearlyPence
+    requires { ⌜ age ≡ ageOf head ⌝ }
+    ensures { λ r. ⌜ r .0 ≡ workedPension head p ⌝ }
+{
+    let stated = p.stated;
+    let early = (p.kind == 3) & (age < 720);
+    if early {
+        let birth = head.birth;
+        let commencement = head.commencement;
+        let months = calendar::months_to_sixtieth_birthday(birth, commencement);
+        return factors::early_payment::reduced_pension(stated, months);
+    }
+    stated
+}
+
+// The terms with F1 as given or looked up.
+fn worked_terms(age: u32, t: FactorTerms) -> FactorTerms
+    ensures { λ r. ⌜ r ≡ workedTerms age t ⌝ }
+{
+    FactorTerms {
+        f1: factors::commutation::commutation_factor(t.f1, age),
+        f2: t.f2,
+        f3: t.f3,
+        increase: t.increase,
+    }
+}
+
+// Whether the two-and-a-quarter cap applies.
+fn is_limited(p: Pension) -> bool
+    ensures { λ r. ⌜ r ≡ limitedLump p ⌝ }
+{
+    let service = p.service;
+    let start = service.start;
+    let end = service.end;
+    let months = calendar::months_between(start, end);
+    let first = p.kind == 1;
+    let second = p.kind == 2;
+    (first | second) & (((300 <= months) & (months <= 359)) & (p.lift == 0))
+}
+
+// A quarter of the pension, as a lump.
+fn quarter_lump(pension: u32, e: Factor) -> u32
+    requires { ⌜ (pension ≤ 50000000) × FactorRange e ⌝ }
+    ensures { λ r. ⌜ (r ≡ quarterLump pension e) × (r ≤ 1000000000) ⌝ }
+{
+    (pension as u64 * e.top / (4 * e.bottom)) as u32
+}
+
+// The cap of a pension.
+fn cap_of(limited: bool, pension: u32, e: Factor) -> u32
+    requires { ⌜ (pension ≤ 50000000) × FactorRange e ⌝ }
+    ensures { λ r. ⌜ r ≡ capOf limited pension e ⌝ }
+{
+    let quarter = quarter_lump(pension, e);
+    if limited {
+        let most = 9 * pension / 4;
+        if most < quarter {
+            return most;
+        }
+    }
+    quarter
+}
+
+fn benefit_of(head: Head, age: u32, p: Pension) -> Benefit
+    requires { ⌜ (age ≡ ageOf head) × (workedPension head p ≤ 50000000) × FactorRange (factorOf age p) ⌝ }
+    ensures { λ r. ⌜ r ≡ benefitOf head p ⌝ }
+{
+    let pension = worked_pension(head, age, p);
+    let given = p.terms;
+    let terms = worked_terms(age, given);
+    let factor = factors::effective::effective_factor(p.kind, terms);
+    let cap = cap_of(is_limited(p), pension.0, factor);
+    Benefit {
+        pension,
+        factor,
+        cap: LumpPence(cap),
+    }
+}
+
+// The first n pensions as the limits see them.
+pub fn benefits_of(head: Head, pensions: [Pension; 4], n: usize) -> [Benefit; 4]
+    requires { ⌜ (n ≤ 4) × ((j : ℕ) → j < n → (workedPension head (getD pensions j noPension) ≤ 50000000) × FactorRange (factorOf (ageOf head) (getD pensions j noPension))) ⌝ }
+    ensures { λ r. ⌜ (take n r ≡ benefitsOf head (take n pensions)) × (length r ≡ 4) ⌝ }
+{
+    let birth = head.birth;
+    let commencement = head.commencement;
+    let age = calendar::months_between(birth, commencement);
+    let blank = Benefit {
+        pension: YearlyPence(0),
+        factor: Factor { top: 0, bottom: 0 },
+        cap: LumpPence(0),
+    };
+    let mut benefits = [blank; 4];
+    let mut i = 0;
+    while i < n {
+        let pension = pensions[i];
+        let benefit = benefit_of(head, age, pension);
+        benefits[i] = benefit;
+        i += 1;
+    }
+    benefits
+}
+
 // The price of one penny of lump, in billionths.
 pub fn price_of(e: Factor) -> u64
     requires { ⌜ FactorRange e ⌝ }
     ensures { λ r. ⌜ r ≡ priceOf e ⌝ }
 {
     3000000000 + (20000000000 * e.bottom + (e.top - 1)) / e.top
+}
+
+// The priced limit of the first n pensions.
+pub fn priced_limit(benefits: [Benefit; 4], n: usize) -> u64
+    requires { ⌜ (n ≤ 4) × (totalPension (take n benefits) ≤ 50000000) ⌝ }
+    ensures { λ r. ⌜ r ≡ pricedLimit (take n benefits) ⌝ }
+{
+    let mut total: u64 = 0;
+    let mut i = 0;
+    while i < n {
+        let benefit = benefits[i];
+        let pension = benefit.pension;
+        total += pension.0 as u64;
+        i += 1;
+    }
+    20000000000 * total
 }

@@ -1,4 +1,4 @@
-// The quote of a case line: its refusal, or the lump sums granted and what remains of each pension.
+// The figures of a quote.
 use factors::money::LumpPence;
 use factors::money::YearlyPence;
 

@@ -6,8 +6,9 @@ use native.Mathlib.Nat.{le-antisymm}
 use native.Mathlib.Omega.{arith}
 use lib.ListN.{length, take, length-set}
 use borrow.Author.Needs.{needs}
+use Rattle.split.specs.Limits.{noBenefit}
 use Rattle.split.specs.Grant.{rowOf}
-use Rattle.split.proofs.GrantLaws.{rows-stored}
+use Rattle.split.proofs.ListLaws.{map-stored}
 use Rattle.split.proofs.grant.rows_of.Statement.{statement}
 use Rattle.split.proofs.grant.rows_of.Tie as tie
 
@@ -30,7 +31,7 @@ loop-again c =
     let size : length (a .t1) ≡ 4 = search needs in (
       omega arith,
       simp length-set (l .inv .1),
-      rows-stored (a .t1) (l .rows) _ _ (omega arith) (omega arith) (l .inv .2) (c .row-of .ensures),
+      map-stored rowOf (a .t1) (l .rows) _ noBenefit _ (omega arith) (omega arith) (l .inv .2) (c .row-of .ensures),
     )
 
 returns : tie.Need-returns Inv-loop μ-loop

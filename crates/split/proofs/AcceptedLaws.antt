@@ -1,0 +1,187 @@
+-- What an accepted case has: what each condition denied, of the head, of any pension and of the total; so every factor
+-- and every amount is in its range. No condition holds where the lowest is 0; the factor goes by the kind, and the sums
+-- by induction over the pensions. Assumes nothing.
+use Prim.Native.Nat.{ℕ, zero, suc, _*_, _≤_, _<_}
+use mathlib.Core.Bool.{Bool, true, false, cond, not, _&&_}
+use mathlib.Core.List.{List, [], _∷_}
+use mathlib.Core.Path.{_≡_, refl}
+use native.Mathlib.Omega.{arith}
+use lib.Dec.{leb, ltb, eqb}
+use lib.ListN.{length, getD}
+use borrow.Author.Tests.{ltb-false, not-false, eq-eqb, ne-eqb}
+use Rattle.calendar.specs.Calendar.{months, sixtiethBirthday}
+use Rattle.calendar.proofs.Laws.{and-left, and-right}
+use Rattle.factors.specs.declared.effective.FactorTerms.{FactorTerms}
+use Rattle.factors.specs.Commutation.{commutationFactor}
+use Rattle.factors.specs.EarlyPayment.{reducedPension}
+use Rattle.factors.specs.Effective.{effectiveFactor}
+use Rattle.factors.proofs.Laws.{FactorRange, DeferredTerms, direct-range, deferred-range, active-range}
+use Rattle.factors.proofs.Laws.{commutation-range, reduced-at-most, within as within-bounds}
+use Rattle.split.specs.declared.case.Head.{Head}
+use Rattle.split.specs.declared.case.Pension.{Pension}
+use Rattle.split.specs.Case.{noPension}
+use Rattle.split.specs.Frame.{any}
+use Rattle.split.specs.Refusal.{ageOf, undatedHead, undated, disordered, badAge, unknownKind, unlisted, wrongAge, noFactor, unstated, totalStated, conditions, lowest}
+use Rattle.split.specs.Refusal.{within, listedF1, noIncrease, listedIncrease}
+use Rattle.split.specs.Benefits.{workedPension, workedTerms, factorOf, limitedLump, benefitOf, benefitsOf}
+use Rattle.split.specs.Limits.{PositiveTops, totalCap, totalPension}
+use Rattle.split.proofs.ListLaws.{or-left, or-right, any-none}
+use Rattle.split.proofs.LimitLaws.{quarter-at-most, cap-quarter}
+
+-- what the conditions denied of a pension
+pub record AcceptedPension (h : Head) (p : Pension) : Type 0 where
+  pub dated : undated p ≡ false
+  pub ordered : disordered h p ≡ false
+  pub known : unknownKind p ≡ false
+  pub listed : unlisted p ≡ false
+  pub aged : wrongAge (ageOf h) p ≡ false
+  pub factored : noFactor (ageOf h) p ≡ false
+  pub stated : unstated p ≡ false
+
+-- and of the case
+pub record Accepted (h : Head) (ps : List Pension) : Type 0 where
+  pub head-dated : undatedHead h ≡ false
+  pub head-aged : badAge (ageOf h) ≡ false
+  pub each : (j : ℕ) → j < length ps → AcceptedPension h (getD ps j noPension)
+  pub sum : totalStated ps ≤ 50000000
+
+-- where no condition holds, the first does not, nor any after it
+pub lowest-none : (k : ℕ) (b : Bool) (bs : List Bool) → lowest (suc k) (b ∷ bs) ≡ 0
+    → (b ≡ false) × (lowest (suc (suc k)) bs ≡ 0)
+lowest-none k true bs e = absurd (omega arith)
+lowest-none k false bs e = (refl, e)
+
+-- so none does at any place
+none-holds : (k : ℕ) (bs : List Bool) → lowest (suc k) bs ≡ 0 → (j : ℕ) → getD bs j false ≡ false
+none-holds k [] e j = refl
+none-holds k (b ∷ bs) e zero = lowest-none k b bs e .0
+none-holds k (b ∷ bs) e (suc j) = none-holds (suc k) bs (lowest-none k b bs e .1) j
+
+-- an accepted case has all that they denied
+pub accepted : (h : Head) (ps : List Pension) → lowest 3 (conditions h ps) ≡ 0 → Accepted h ps
+unfolding conditions
+accepted h ps e =
+    let none = none-holds 2 (conditions h ps) e in
+    record {
+      head-dated = or-left (undatedHead h) (any undated ps) (none 0);
+      head-aged = none 2;
+      each = λ j place. record {
+        dated = any-none undated ps noPension (or-right (undatedHead h) (any undated ps) (none 0)) j place;
+        ordered = any-none (disordered h) ps noPension (none 1) j place;
+        known = any-none unknownKind ps noPension (none 3) j place;
+        listed = any-none unlisted ps noPension (none 4) j place;
+        aged = any-none (wrongAge (ageOf h)) ps noPension (none 5) j place;
+        factored = any-none (noFactor (ageOf h)) ps noPension (none 6) j place;
+        stated =
+            any-none unstated ps noPension (or-left (any unstated ps) (ltb 50000000 (totalStated ps)) (none 7)) j place;
+      };
+      sum = ltb-false 50000000 (totalStated ps) (or-right (any unstated ps) (ltb 50000000 (totalStated ps)) (none 7));
+    }
+
+-- the kind is 1, 2 or 3
+known-kind : (p : Pension) → unknownKind p ≡ false → (1 ≤ p .kind) × (p .kind ≤ 3)
+unfolding unknownKind
+known-kind p e = within-bounds 1 3 (p .kind) (not-false (within 1 3 (p .kind)) e)
+
+-- of a kind that has an F1, it is in its range, given or looked up, and the rest of the list holds
+worked-f1 : (age : ℕ) (p : Pension) (rest : Bool) → not (leb (p .lift) 1 && (listedF1 (p .terms) && rest)) ≡ false
+    → (eqb (p .terms .f1) 0 && not (within 636 875 age)) ≡ false
+    → (500 ≤ commutationFactor (p .terms .f1) age) × (commutationFactor (p .terms .f1) age ≤ 4000) × (rest ≡ true)
+unfolding listedF1
+worked-f1 age p rest listed held =
+    let f1 = p .terms .f1 in
+    let both = and-right (leb (p .lift) 1) (listedF1 (p .terms) && rest) (not-false _ listed) in
+    let range =
+    commutation-range f1 age
+    (λ z. within-bounds 636 875 age (not-false (within 636 875 age) (simp (eq-eqb f1 0 z) at held)))
+    (λ z. within-bounds 500 4000 f1 (simp (ne-eqb f1 0 z) at (and-left (listedF1 (p .terms)) rest both)))
+    in (range .0, range .1, and-right (listedF1 (p .terms)) rest both)
+
+-- the terms of kind 2 are within their lists
+pub deferred-terms : (h : Head) (p : Pension) → AcceptedPension h p → p .kind ≡ 2
+    → DeferredTerms (workedTerms (ageOf h) (p .terms))
+unfolding unlisted noFactor listedIncrease workedTerms
+deferred-terms h p a e =
+    let t = p .terms in
+    let f1 = worked-f1 (ageOf h) p (listedIncrease t) (simp e at (a .listed)) (simp e at (a .factored)) in
+    let last = and-right (within 500 4000 (t .f2)) (within 1 1000 (t .f3) && within 1 10000 (t .increase)) (f1 .2) in
+    let f2 = within-bounds 500 4000 (t .f2) (and-left (within 500 4000 (t .f2)) _ (f1 .2)) in
+    let f3 = within-bounds 1 1000 (t .f3) (and-left (within 1 1000 (t .f3)) _ last) in
+    let increase = within-bounds 1 10000 (t .increase) (and-right (within 1 1000 (t .f3)) _ last) in
+    omega arith
+
+-- E of an accepted pension is in range
+pub factor-range : (h : Head) (p : Pension) → AcceptedPension h p → FactorRange (factorOf (ageOf h) p)
+unfolding factorOf workedTerms unlisted noFactor
+factor-range h p a = go (p .kind) refl
+  where
+    terms : FactorTerms
+    terms = workedTerms (ageOf h) (p .terms)
+
+    go : (kind : ℕ) → p .kind ≡ kind → FactorRange (effectiveFactor kind terms)
+    go zero e = absurd (omega (arith, known-kind p (a .known)))
+    go (suc zero) e =
+        let f1 = worked-f1 (ageOf h) p (noIncrease (p .terms)) (simp e at (a .listed)) (simp e at (a .factored)) in
+        direct-range terms (f1 .0) (f1 .1)
+    go (suc (suc zero)) e = deferred-range terms (deferred-terms h p a e)
+    go (suc (suc (suc zero))) e = active-range terms
+    go (suc (suc (suc (suc kind)))) e = absurd (omega (arith, known-kind p (a .known)))
+
+-- a pension is at most what is stated
+pub worked-at-most : (h : Head) (p : Pension) → workedPension h p ≤ p .stated .0
+unfolding workedPension
+worked-at-most h p = go (eqb (p .kind) 3 && ltb (ageOf h) 720)
+  where
+    left : ℕ
+    left = months (h .commencement) (sixtiethBirthday (h .birth))
+
+    go : (early : Bool) → cond early (reducedPension (p .stated .0) left) (p .stated .0) ≤ p .stated .0
+    go true = reduced-at-most (p .stated .0) left
+    go false = omega arith
+
+-- a stated pension is at most their total
+pub stated-at-most : (ps : List Pension) (j : ℕ) → j < length ps → (getD ps j noPension) .stated .0 ≤ totalStated ps
+stated-at-most [] j h = omega arith
+stated-at-most (p ∷ ps) zero h = omega arith
+stated-at-most (p ∷ ps) (suc j) h = omega (arith, stated-at-most ps j (omega arith))
+
+-- the pensions after the first are accepted too
+pub accepted-rest : {h : Head} {p : Pension} {ps : List Pension} → Accepted h (p ∷ ps) → Accepted h ps
+accepted-rest a = record {
+  head-dated = a .head-dated;
+  head-aged = a .head-aged;
+  each = λ j place. a .each (suc j) (omega arith);
+  sum = omega arith;
+}
+
+-- the caps are at most twenty times what is stated
+caps-at-most : (h : Head) (ps : List Pension) → Accepted h ps → totalCap (benefitsOf h ps) ≤ 20 * totalStated ps
+unfolding benefitOf
+caps-at-most h [] a = omega arith
+caps-at-most h (p ∷ ps) a =
+    omega (
+      arith,
+      cap-quarter (limitedLump p) (workedPension h p) (factorOf (ageOf h) p),
+      quarter-at-most (workedPension h p) (factorOf (ageOf h) p) (factor-range h p (a .each 0 (omega arith))),
+      worked-at-most h p,
+      caps-at-most h ps (accepted-rest a),
+    )
+
+-- and the pensions are at most what is stated
+pensions-at-most : (h : Head) (ps : List Pension) → totalPension (benefitsOf h ps) ≤ totalStated ps
+unfolding benefitOf
+pensions-at-most h [] = omega arith
+pensions-at-most h (p ∷ ps) = omega (arith, worked-at-most h p, pensions-at-most h ps)
+
+-- what the theorem of the best split asks
+pub accepted-tops : (h : Head) (ps : List Pension) → Accepted h ps → PositiveTops (benefitsOf h ps)
+unfolding benefitOf
+accepted-tops h [] a = tt
+accepted-tops h (p ∷ ps) a =
+    (factor-range h p (a .each 0 (omega arith)) .top-positive, accepted-tops h ps (accepted-rest a))
+
+pub accepted-caps : (h : Head) (ps : List Pension) → Accepted h ps → totalCap (benefitsOf h ps) ≤ 1000000000
+accepted-caps h ps a = omega (arith, caps-at-most h ps a)
+
+pub accepted-pensions : (h : Head) (ps : List Pension) → Accepted h ps → totalPension (benefitsOf h ps) ≤ 50000000
+accepted-pensions h ps a = omega (arith, pensions-at-most h ps)

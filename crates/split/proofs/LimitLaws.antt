@@ -1,0 +1,98 @@
+-- Laws of the limits: a pension, its factor and its cap as the code works them out are those
+-- of the definitions, a cap and a quarter's lump stay in range, and the total of the pensions grows by one. Assumes nothing.
+use Prim.Native.Nat.{ℕ, zero, suc, _+_, _*_, _/_, _≤_, _<_}
+use mathlib.Core.Bool.{Bool, true, false, _&&_}
+use mathlib.Core.List.{List, [], _∷_, _++_}
+use mathlib.Core.Path.{_≡_, _∙_, ap}
+use native.Mathlib.Nat.{mul-le-mul-left, div-le-of-le-mul}
+use native.Mathlib.Omega.{arith}
+use lib.Dec.{ltb, eqb}
+use lib.ListN.{length, getD, take}
+use Rattle.calendar.specs.Calendar.{months, sixtiethBirthday}
+use Rattle.factors.specs.declared.money.YearlyPence.{YearlyPence}
+use Rattle.factors.specs.declared.effective.Factor.{Factor}
+use Rattle.factors.specs.declared.effective.FactorTerms.{FactorTerms}
+use Rattle.factors.specs.EarlyPayment.{reducedPension}
+use Rattle.factors.specs.Effective.{effectiveFactor}
+use Rattle.factors.proofs.Laws.{FactorRange}
+use Rattle.split.specs.declared.case.Head.{Head}
+use Rattle.split.specs.declared.case.Pension.{Pension}
+use Rattle.split.specs.declared.limits.Benefit.{Benefit}
+use Rattle.split.specs.Refusal.{ageOf}
+use Rattle.split.specs.Benefits.{workedPension, workedTerms, factorOf, limitedLump, quarterLump, capOf, benefitOf}
+use Rattle.split.specs.Limits.{noBenefit, totalPension}
+use Rattle.split.proofs.ListLaws.{take-next}
+use Rattle.split.proofs.Prices.{ring}
+
+-- the pension, where it is reduced for early payment and where it is kept whole
+pub worked-early : (h : Head) (p : Pension) (age left r : ℕ) → age ≡ ageOf h → (eqb (p .kind) 3 && ltb age 720) ≡ true
+    → left ≡ months (h .commencement) (sixtiethBirthday (h .birth)) → r ≡ reducedPension (p .stated .0) left
+    → r ≡ workedPension h p
+unfolding workedPension
+worked-early h p age left r a early m e = rw (← a, early, ← m) e
+
+pub worked-whole : (h : Head) (p : Pension) (age : ℕ) → age ≡ ageOf h → (eqb (p .kind) 3 && ltb age 720) ≡ false
+    → p .stated .0 ≡ workedPension h p
+unfolding workedPension
+worked-whole h p age a late = rw (← a, late)
+
+-- a quarter's lump is at most twenty pensions
+pub quarter-at-most : (pension : ℕ) (e : Factor) → FactorRange e → quarterLump pension e ≤ 20 * pension
+unfolding quarterLump
+quarter-at-most pension e r =
+    div-le-of-le-mul (4 * e .bottom) (simp ring (omega (arith, simp ring at (mul-le-mul-left pension (r .most)))))
+
+-- and a cap at most that
+pub cap-quarter : (limited : Bool) (pension : ℕ) (e : Factor) → capOf limited pension e ≤ quarterLump pension e
+unfolding capOf
+cap-quarter true pension e = omega arith
+cap-quarter false pension e = omega arith
+
+-- the cap by its branches
+pub cap-most : (limited : Bool) (pension quarter : ℕ) (e : Factor) → limited ≡ true → quarter ≡ quarterLump pension e
+    → 9 * pension / 4 < quarter → 9 * pension / 4 ≡ capOf limited pension e
+unfolding capOf
+cap-most limited pension quarter e t q h = rw t (omega arith)
+
+pub cap-within : (limited : Bool) (pension quarter : ℕ) (e : Factor) → limited ≡ true → quarter ≡ quarterLump pension e
+    → quarter ≤ 9 * pension / 4 → quarter ≡ capOf limited pension e
+unfolding capOf
+cap-within limited pension quarter e t q h = rw t (omega arith)
+
+pub cap-unlimited : (limited : Bool) (pension quarter : ℕ) (e : Factor) → limited ≡ false
+    → quarter ≡ quarterLump pension e → quarter ≡ capOf limited pension e
+unfolding capOf
+cap-unlimited limited pension quarter e t q = rw t q
+
+-- the factor of worked terms
+pub factor-made : (age : ℕ) (p : Pension) (t : FactorTerms) (e : Factor) → t ≡ workedTerms age (p .terms)
+    → e ≡ effectiveFactor (p .kind) t → e ≡ factorOf age p
+unfolding factorOf
+factor-made age p t e x y = y ∙ ap (effectiveFactor (p .kind)) x
+
+-- a pension as the limits see it, of its parts
+pub benefit-made : (h : Head) (p : Pension) (age : ℕ) (pension : YearlyPence) (e : Factor) (limited : Bool) (cap : ℕ)
+    → age ≡ ageOf h → pension .0 ≡ workedPension h p → e ≡ factorOf age p → limited ≡ limitedLump p
+    → cap ≡ capOf limited (pension .0) e
+    → _≡_ {A = Benefit} (record { pension = pension; factor = e; cap = record { 0 = cap } }) (benefitOf h p)
+unfolding benefitOf
+benefit-made h p age pension e limited cap a x y l z =
+    let factor : e ≡ factorOf (ageOf h) p = rw (← a) y in
+    let capped : cap ≡ capOf (limitedLump p) (workedPension h p) (factorOf (ageOf h) p) = rw (← l, ← x, ← factor) z in
+    λ i. record { pension = record { 0 = x i }; factor = factor i; cap = record { 0 = capped i } }
+
+-- one more pension of the total
+pub pensions-more : (bs : List Benefit) (b : Benefit) → totalPension (bs ++ (b ∷ [])) ≡ totalPension bs + b .pension .0
+pensions-more [] b = omega arith
+pensions-more (a ∷ bs) b = omega (arith, pensions-more bs b)
+
+pub pensions-next : (bs : List Benefit) (i t : ℕ) → i < length bs → t ≡ totalPension (take i bs)
+    → t + (getD bs i noBenefit) .pension .0 ≡ totalPension (take (i + 1) bs)
+pensions-next bs i t place e = rw (take-next bs i noBenefit place, pensions-more, e)
+
+-- the total of fewer pensions is at most that of more
+pub pensions-part : (bs : List Benefit) (i n : ℕ) → i ≤ n → totalPension (take i bs) ≤ totalPension (take n bs)
+pensions-part bs zero n h = omega arith
+pensions-part bs (suc i) zero h = absurd (omega arith)
+pensions-part [] (suc i) (suc n) h = omega arith
+pensions-part (b ∷ bs) (suc i) (suc n) h = omega (arith, pensions-part bs i n (omega arith))

@@ -1,0 +1,268 @@
+-- What the register cites of the split: a quote's figures fit 32 bits, its refusal is the line's, and the lumps of a grant are
+-- the best. A case that is not refused is accepted and has at most four pensions, so that every share of its grant is in
+-- range and the four places are its lumps and zeros. Assumes nothing.
+use Prim.Native.Nat.{ℕ, zero, suc, _+_, _-_, _*_, _/_, _≤_, _<_}
+use mathlib.Core.Bool.{Bool, true, false, cond, not, _||_, false≢true}
+use mathlib.Core.List.{List, [], _∷_, _++_}
+use mathlib.Core.Path.{_≡_, refl, sym, _∙_, ap}
+use native.Mathlib.Decide.{decLe}
+use native.Mathlib.Nat.{mul-le-mul-left, div-le-of-le-mul}
+use native.Mathlib.Omega.{arith}
+use lib.Dec.{eqb}
+use lib.ListN.{length, take, replicate, length-append, length-replicate}
+use lib.Seq.{take-at, drop-at}
+use borrow.Author.Tests.{eqb-true, eqb-false, ne-eqb, not-false}
+use Rattle.split.specs.declared.case.Head.{Head}
+use Rattle.split.specs.declared.case.Pension.{Pension}
+use Rattle.split.specs.declared.shares.Share.{Share}
+use Rattle.split.specs.declared.shares.Quote.{Quote}
+use Rattle.split.specs.Case.{headOf, pensionAt, pensionsAt, pensionsOf}
+use Rattle.split.specs.Frame.{badCharacter}
+use Rattle.split.specs.Refusal.{badLength, conditions, lowest, refusalOf}
+use Rattle.split.specs.Benefits.{workedTerms, benefitOf, benefitsOf}
+use Rattle.split.specs.Limits.{total, WithinCaps, Best}
+use Rattle.split.specs.Quote.{remainingOf, secondOf, shareOf, noShare, sharesOf, lumpsGranted, grantedQuote, refusedQuote}
+use Rattle.split.specs.Quote.{quoteOf, lumpsIn, BestLumps, SharesFit, QuoteFits}
+use Rattle.split.proofs.ListLaws.{or-left, or-right}
+use Rattle.split.proofs.FrameLaws.{number-below}
+use Rattle.split.proofs.Prices.{total-capped}
+use Rattle.split.proofs.Best.{grant-best}
+use Rattle.split.proofs.AcceptedLaws.{AcceptedPension, Accepted, lowest-none, accepted, deferred-terms, accepted-rest}
+use Rattle.split.proofs.AcceptedLaws.{accepted-tops, accepted-caps, accepted-pensions}
+use Rattle.split.proofs.ShareLaws.{shares-counted}
+
+-- a line of a listed length that agrees with its count has at most four pensions
+count-listed : (characters n : ℕ) → badLength characters n ≡ false → n ≤ 4
+unfolding badLength
+count-listed characters n e =
+    let counted = eqb-true characters (26 + 44 * n) (not-false _ (or-right (not listed) _ e)) in
+    elim (decLe characters 202) [
+      | yes h ↦ omega arith
+      | no h ↦ absurd (false≢true
+          (simp (
+            ne-eqb characters 70 (omega arith),
+            ne-eqb characters 114 (omega arith),
+            ne-eqb characters 158 (omega arith),
+            ne-eqb characters 202 (omega arith),
+          ) at (not-false listed (or-left (not listed) _ e))))
+    ]
+  where
+    listed : Bool
+    listed = eqb characters 70 || eqb characters 114 || (eqb characters 158 || eqb characters 202)
+
+-- as many pensions as are counted
+pensions-counted : (s : List ℕ) (n : ℕ) → length (pensionsAt s n) ≡ n
+unfolding pensionsAt
+pensions-counted s zero = refl
+pensions-counted s (suc n) =
+    omega (arith, pensions-counted s n, length-append (pensionsAt s n) (pensionAt s (26 + 44 * n) ∷ []))
+
+-- a second instalment is at most its lump
+second-at-most : (h : Head) (p : Pension) (lump : ℕ) → AcceptedPension h p → secondOf p lump ≤ lump
+unfolding secondOf workedTerms
+second-at-most h p lump a = go (eqb (p .kind) 2) refl
+  where
+    go : (b : Bool) → eqb (p .kind) 2 ≡ b → cond b (lump * p .terms .increase / 10000) 0 ≤ lump
+    go true e =
+        div-le-of-le-mul 10000
+        (omega (arith, mul-le-mul-left lump (deferred-terms h p a (eqb-true (p .kind) 2 e) .increase-high)))
+    go false e = omega arith
+
+-- a lump for each pension, of which every figure fits
+data Shared (h : Head) : List Pension → List ℕ → Type 0 where
+  none : Shared h [] []
+  more : {p : Pension} {ps : List Pension} {x : ℕ} {xs : List ℕ} → x < 4294967296
+      → remainingOf (benefitOf h p) x < 4294967296 → secondOf p x < 4294967296 → Shared h ps xs → Shared h (p ∷ ps) (x ∷ xs)
+
+-- an accepted case is given such lumps by any split within the caps
+shared : (h : Head) (ps : List Pension) (xs : List ℕ) → Accepted h ps → WithinCaps (benefitsOf h ps) xs → Shared h ps xs
+unfolding benefitOf remainingOf
+shared h [] [] a capped = none
+shared h [] (x ∷ xs) a capped = absurd capped
+shared h (p ∷ ps) [] a capped = absurd capped
+shared h (p ∷ ps) (x ∷ xs) a capped =
+    let caps = accepted-caps h (p ∷ ps) a in
+    more {p = p} {x = x} (omega arith) (omega (arith, accepted-pensions h (p ∷ ps) a))
+    (omega (arith, second-at-most h p x (a .each 0 (omega arith)))) (shared h ps xs (accepted-rest a) (capped .1))
+
+-- there are as many lumps as pensions
+lumps-counted : {h : Head} {ps : List Pension} {xs : List ℕ} → Shared h ps xs → length xs ≡ length ps
+lumps-counted none = refl
+lumps-counted (more x r s rest) = ap suc (lumps-counted rest)
+
+-- the lumps of their shares are those given
+shares-lumps : {h : Head} {ps : List Pension} {xs : List ℕ} (after : List Share) → Shared h ps xs
+    → lumpsIn (sharesOf h ps xs ++ after) ≡ xs ++ lumpsIn after
+unfolding shareOf
+shares-lumps after none = refl
+shares-lumps after (more {x = x} fits r s rest) = ap (λ (l : List ℕ). x ∷ l) (shares-lumps after rest)
+
+-- their figures fit
+shares-fit : {h : Head} {ps : List Pension} {xs : List ℕ} (after : List Share) → SharesFit after → Shared h ps xs
+    → SharesFit (sharesOf h ps xs ++ after)
+unfolding shareOf
+shares-fit after fit none = fit
+shares-fit after fit (more x r s rest) = (x, r, s, shares-fit after fit rest)
+
+-- the places of no pension
+none-fit : (n : ℕ) → SharesFit (replicate n noShare)
+none-fit zero = tt
+none-fit (suc n) = (omega arith, omega arith, omega arith, none-fit n)
+
+none-lumps : (n : ℕ) → lumpsIn (replicate n noShare) ≡ replicate n 0
+none-lumps zero = refl
+none-lumps (suc n) = ap (λ (l : List ℕ). 0 ∷ l) (none-lumps n)
+
+-- what a line has that is not refused
+record Granted (s : List ℕ) : Type 0 where
+  few : headOf s .count ≤ 4
+  best : Best (benefitsOf (headOf s) (pensionsOf s)) (lumpsGranted (headOf s) (pensionsOf s))
+  small : total (lumpsGranted (headOf s) (pensionsOf s)) ≤ 1000000000
+  each : Shared (headOf s) (pensionsOf s) (lumpsGranted (headOf s) (pensionsOf s))
+
+granted : (s : List ℕ) → refusalOf s ≡ 0 → Granted s
+unfolding refusalOf lumpsGranted
+granted s e =
+    let h = headOf s in
+    let ps = pensionsOf s in
+    let later = lowest-none 0 (badCharacter s) (badLength (length s) (h .count) ∷ conditions h ps) e .1 in
+    let last = lowest-none 1 (badLength (length s) (h .count)) (conditions h ps) later in
+    let a = accepted h ps (last .1) in
+    let caps = accepted-caps h ps a in
+    let best = grant-best (benefitsOf h ps) (accepted-tops h ps a) (omega arith) in
+    record {
+      few = count-listed (length s) (h .count) (last .0);
+      best = best;
+      small = omega (arith, total-capped (benefitsOf h ps) (lumpsGranted (headOf s) (pensionsOf s)) (best .caps));
+      each = shared h ps (lumpsGranted (headOf s) (pensionsOf s)) a (best .caps);
+    }
+
+-- it has as many shares as pensions are counted
+places-counted : (s : List ℕ) → Granted s
+    → length (sharesOf (headOf s) (pensionsOf s) (lumpsGranted (headOf s) (pensionsOf s))) ≡ headOf s .count
+places-counted s g =
+    shares-counted (headOf s) (pensionsOf s) (lumpsGranted (headOf s) (pensionsOf s)) (lumps-counted (g .each))
+    ∙ pensions-counted s (headOf s .count)
+
+-- every figure of a grant fits
+member-fits : (s : List ℕ) → headOf s .member < 4294967296
+unfolding headOf
+member-fits s = number-below s 0 8
+
+granted-fits : (s : List ℕ) → Granted s → QuoteFits (grantedQuote (headOf s) (pensionsOf s))
+unfolding grantedQuote
+granted-fits s g =
+    let shares = sharesOf (headOf s) (pensionsOf s) (lumpsGranted (headOf s) (pensionsOf s)) in
+    record {
+      member = member-fits s;
+      total = omega arith;
+      four = rw (length-append, length-replicate, places-counted s g) (omega arith);
+      shares = shares-fit (replicate (4 - length shares) noShare) (none-fit (4 - length shares)) (g .each);
+    }
+
+-- and of a refusal
+refused-fits : (r : ℕ) → QuoteFits (refusedQuote r)
+unfolding refusedQuote
+refused-fits r = record { member = omega arith; total = omega arith; four = refl; shares = none-fit 4 }
+
+-- the best lumps of a case, with zeros for the other places, are the best in four places
+best-lumps : (s xs four : List ℕ) → four ≡ xs ++ replicate (4 - headOf s .count) 0 → length xs ≡ headOf s .count
+    → Best (benefitsOf (headOf s) (pensionsOf s)) xs → BestLumps s four (total xs)
+best-lumps s xs four e counted best =
+    let n = headOf s .count in
+    let first : take n four ≡ xs = rw (e, take-at xs (replicate (4 - n) 0) n counted) in
+    record {
+      split = rw first best;
+      rest = rw (e, drop-at xs (replicate (4 - n) 0) n counted);
+      summed = rw first;
+    }
+
+-- so are those of a grant
+granted-best : (s : List ℕ) → Granted s → BestLumps s (lumpsIn (grantedQuote (headOf s) (pensionsOf s) .shares)) (grantedQuote (headOf s) (pensionsOf s) .total .0)
+unfolding grantedQuote
+granted-best s g =
+    best-lumps s (lumpsGranted (headOf s) (pensionsOf s)) _
+    (shares-lumps _ (g .each) ∙ rw (none-lumps, places-counted s g))
+    (lumps-counted (g .each) ∙ pensions-counted s (headOf s .count))
+    (g .best)
+
+-- the quote of a line is the grant's or the refusal's
+by-refusal : (P : Quote → Type 0) (s : List ℕ) → (refusalOf s ≡ 0 → P (grantedQuote (headOf s) (pensionsOf s)))
+    → ((refusalOf s ≡ 0 → ⊥) → P (refusedQuote (refusalOf s))) → P (quoteOf s)
+unfolding quoteOf
+by-refusal P s granting refusing = go (eqb (refusalOf s) 0) refl
+  where
+    go : (b : Bool) → eqb (refusalOf s) 0 ≡ b → P (cond b (grantedQuote (headOf s) (pensionsOf s)) (refusedQuote (refusalOf s)))
+    go true e = granting (eqb-true (refusalOf s) 0 e)
+    go false e = refusing (eqb-false (refusalOf s) 0 e)
+
+refused-as : (s : List ℕ) (r : ℕ) → (r ≡ 0 → ⊥) → refusalOf s ≡ r → refusedQuote r ≡ quoteOf s
+refused-as s r some e =
+    by-refusal (λ q. refusedQuote r ≡ q) s (λ z. absurd (some (sym e ∙ z))) (λ ne. ap refusedQuote (sym e))
+
+granted-as : (s : List ℕ) → refusalOf s ≡ 0 → grantedQuote (headOf s) (pensionsOf s) ≡ quoteOf s
+granted-as s e = by-refusal (λ q. grantedQuote (headOf s) (pensionsOf s) ≡ q) s (λ z. refl) (λ ne. absurd (ne e))
+
+-- the refusal of a quote is the line's
+pub quote-refusal : (s : List ℕ) → quoteOf s .refusal ≡ refusalOf s
+unfolding grantedQuote refusedQuote
+quote-refusal s = by-refusal (λ q. q .refusal ≡ refusalOf s) s (λ e. sym e) (λ ne. refl)
+
+-- the figures of every quote fit
+pub quote-fits : (s : List ℕ) → QuoteFits (quoteOf s)
+quote-fits s = by-refusal QuoteFits s (λ e. granted-fits s (granted s e)) (λ ne. refused-fits (refusalOf s))
+
+-- the lumps of a quote without refusal are the best
+pub quote-best : (s : List ℕ) → refusalOf s ≡ 0 → BestLumps s (lumpsIn (quoteOf s .shares)) (quoteOf s .total .0)
+quote-best s e =
+    by-refusal (λ q. BestLumps s (lumpsIn (q .shares)) (q .total .0)) s (λ z. granted-best s (granted s z))
+    (λ ne. absurd (ne e))
+
+-- the conditions on the frame, and then those on the case
+frame-first : (a b : Bool) (bs : List Bool) → (lowest 1 (a ∷ b ∷ []) ≡ 0 → ⊥) → lowest 1 (a ∷ b ∷ bs) ≡ lowest 1 (a ∷ b ∷ [])
+frame-first true b bs h = refl
+frame-first false true bs h = refl
+frame-first false false bs h = absurd (h refl)
+
+frame-then : (a b : Bool) (bs : List Bool) → _≡_ {A = ℕ} (lowest 1 (a ∷ b ∷ [])) 0 → lowest 1 (a ∷ b ∷ bs) ≡ lowest 3 bs
+frame-then true b bs e = absurd (omega arith)
+frame-then false true bs e = absurd (omega arith)
+frame-then false false bs e = refl
+
+-- what the code has read of a line, and the quote that it makes of it
+module _ (s : List ℕ) (h : Head) (framed : ℕ) (read : h ≡ headOf s)
+    (frame : framed ≡ lowest 1 (badCharacter s ∷ badLength (length s) (h .count) ∷ [])) where
+  frame-of : framed ≡ lowest 1 (badCharacter s ∷ badLength (length s) (headOf s .count) ∷ [])
+  frame-of = frame ∙ ap (λ (k : Head). lowest 1 (badCharacter s ∷ badLength (length s) (k .count) ∷ [])) read
+
+  -- refused by its frame
+  pub quote-framed : (q : Quote) → (framed ≡ 0 → ⊥) → q ≡ refusedQuote framed → q ≡ quoteOf s
+  unfolding refusalOf
+  quote-framed q no-frame made =
+      made ∙ refused-as s framed no-frame
+      (frame-first (badCharacter s) (badLength (length s) (headOf s .count)) (conditions (headOf s) (pensionsOf s)) (λ e. no-frame (frame-of ∙ e)) ∙ sym frame-of)
+
+  -- a good frame has at most four pensions
+  pub quote-few : framed ≡ 0 → h .count ≤ 4
+  quote-few whole =
+      let later = lowest-none 0 (badCharacter s) (badLength (length s) (h .count) ∷ []) (sym frame ∙ whole) .1 in
+      count-listed (length s) (h .count) (lowest-none 1 (badLength (length s) (h .count)) [] later .0)
+
+  module _ (whole : framed ≡ 0) (ps : List Pension) (taken : take (h .count) ps ≡ pensionsAt s (h .count)) (refused : ℕ)
+      (case : refused ≡ lowest 3 (conditions h (take (h .count) ps))) where
+    case-of : refusalOf s ≡ refused
+    unfolding refusalOf
+    case-of =
+        frame-then (badCharacter s) (badLength (length s) (headOf s .count)) (conditions (headOf s) (pensionsOf s)) (sym frame-of ∙ whole)
+        ∙ sym (case ∙ ap (λ (l : List Pension). lowest 3 (conditions h l)) taken
+        ∙ ap (λ (k : Head). lowest 3 (conditions k (pensionsAt s (k .count)))) read)
+
+    -- refused by its case
+    pub quote-cased : (q : Quote) → (refused ≡ 0 → ⊥) → q ≡ refusedQuote refused → q ≡ quoteOf s
+    quote-cased q no-case made = made ∙ refused-as s refused no-case case-of
+
+    -- granted
+    pub quote-made : (q : Quote) → refused ≡ 0 → q ≡ grantedQuote h (take (h .count) ps) → q ≡ quoteOf s
+    quote-made q passed made =
+        made ∙ ap (λ (l : List Pension). grantedQuote h l) taken
+        ∙ ap (λ (k : Head). grantedQuote k (pensionsAt s (k .count))) read ∙ granted-as s (case-of ∙ passed)

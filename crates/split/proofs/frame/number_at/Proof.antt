@@ -1,0 +1,12 @@
+-- `number_at` reads eight digits by the cursor; past the end they are zeros.
+use borrow.Author.Needs.{needs}
+use mathlib.Core.Path.{sym}
+use Rattle.split.proofs.FrameLaws.{number-past}
+use Rattle.split.proofs.frame.number_at.Statement.{statement}
+use Rattle.split.proofs.frame.number_at.Tie as tie
+
+returns-2 : tie.Need-returns-2
+returns-2 c = sym (number-past _ _ 8 (c .if1 .left))
+
+pub number-at-spec : {M : Type 1} → statement M
+number-at-spec = tie.close (tie.spec (search needs) (search needs) returns-2)

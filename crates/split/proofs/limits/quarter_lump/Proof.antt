@@ -1,0 +1,27 @@
+-- `quarter_lump` is the definition `quarterLump`; E is at most 80, so a quarter of it is at most 20 pensions.
+use native.Mathlib.Nat.{mul-le-mul}
+use mathlib.Core.Path.{refl}
+use native.Mathlib.Omega.{arith}
+use borrow.Author.Needs.{needs}
+use Rattle.split.specs.Benefits.{quarterLump}
+use Rattle.split.proofs.LimitLaws.{quarter-at-most}
+use Rattle.split.proofs.limits.quarter_lump.Statement.{statement}
+use Rattle.split.proofs.limits.quarter_lump.Tie as tie
+
+mul-result : tie.Need-mul-result
+mul-result c = omega (arith, mul-le-mul (c .before .pre .0) (c .before .pre .1 .top-high))
+
+cast-result : tie.Need-cast-result
+unfolding quarterLump
+cast-result c =
+    let start = c .before .before in
+    omega (arith, quarter-at-most (start .args .pension) (start .args .e) (start .pre .1))
+
+returns : tie.Need-returns
+unfolding quarterLump
+returns c =
+    let start = c .before .before in
+    (refl, omega (arith, quarter-at-most (start .args .pension) (start .args .e) (start .pre .1)))
+
+pub quarter-lump-spec : {M : Type 1} → statement M
+quarter-lump-spec = tie.close (tie.spec mul-result (search needs) (search needs) cast-result returns)

@@ -1,0 +1,139 @@
+// Making a quote: the lump sums granted, what remains of each pension, and the second instalments.
+use crate::case::Head;
+use crate::case::Pension;
+use crate::grant;
+use crate::grant::Row;
+use crate::limits;
+use crate::limits::Benefit;
+use crate::shares::Quote;
+use crate::shares::Share;
+use factors::money::LumpPence;
+use factors::money::YearlyPence;
+ghost use mathlib.Core.Path.{_≡_};
+ghost use mathlib.Core.List.{_++_};
+ghost use Prim.Native.Nat.{ℕ, _*_, _/_, _≤_, _<_};
+ghost use lib.ListN.{length, getD, take, replicate};
+ghost use Rattle.factors.proofs.Laws.{FactorRange};
+ghost use Rattle.split.specs.Case.{noPension};
+ghost use Rattle.split.specs.Refusal.{conditions, lowest};
+ghost use Rattle.split.specs.Benefits.{benefitOf, benefitsOf};
+ghost use Rattle.split.specs.Limits.{noBenefit, total};
+ghost use Rattle.split.specs.Grant.{noRow, lumpsOf};
+ghost use Rattle.split.specs.Quote.{remainingOf, secondOf, shareOf, sharesOf, padded, noShare, refusedQuote, grantedQuote};
+ghost use Rattle.split.specs.Parts.{ShareRange, SharesRange};
+
+fn no_share() -> Share
+    ensures { λ r. ⌜ r ≡ noShare ⌝ }
+{
+    Share {
+        lump: LumpPence(0),
+        remaining: YearlyPence(0),
+        second: LumpPence(0),
+    }
+}
+
+// What remains of a pension once a lump is taken.
+fn remaining_of(b: Benefit, lump: LumpPence) -> YearlyPence
+    requires { ⌜ ShareRange b (lump .0) ⌝ }
+    ensures { λ r. ⌜ r .0 ≡ remainingOf b (lump .0) ⌝ }
+{
+    let factor = b.factor;
+    let pension = b.pension;
+    let given_up = lump.0 as u64 * factor.bottom / factor.top;
+    YearlyPence(pension.0 - given_up as u32)
+}
+
+// The lump paid at 55, for kind 2.
+fn second_of(p: Pension, lump: LumpPence) -> LumpPence
+    requires { ⌜ (lump .0 ≤ 1000000000) × (p .terms .increase ≤ 10000) ⌝ }
+    ensures { λ r. ⌜ r .0 ≡ secondOf p (lump .0) ⌝ }
+{
+    if p.kind == 2 {
+        let terms = p.terms;
+        let increase = terms.increase as u64;
+        return LumpPence((lump.0 as u64 * increase / 10000) as u32);
+    }
+    LumpPence(0)
+}
+
+fn share_of(head: Head, p: Pension, b: Benefit, lump: LumpPence) -> Share
+    requires { ⌜ (b ≡ benefitOf head p) × ShareRange b (lump .0) × (p .terms .increase ≤ 10000) ⌝ }
+    ensures { λ r. ⌜ r ≡ shareOf head p (lump .0) ⌝ }
+{
+    let remaining = remaining_of(b, lump);
+    let second = second_of(p, lump);
+    Share {
+        lump,
+        remaining,
+        second,
+    }
+}
+
+// The figures of the first n pensions, and zeros in the places after them.
+fn shares_of(
+    head: Head,
+    pensions: [Pension; 4],
+    benefits: [Benefit; 4],
+    rows: [Row; 4],
+    n: usize,
+) -> [Share; 4]
+    requires { ⌜ SharesRange head pensions benefits rows n ⌝ }
+    ensures { λ r. ⌜ r ≡ padded (sharesOf head (take n pensions) (lumpsOf (take n rows))) ⌝ }
+{
+    let mut shares = [no_share(); 4];
+    let mut i = 0;
+    while i < n {
+        let pension = pensions[i];
+        let benefit = benefits[i];
+        let row = rows[i];
+        let lump = row.lump;
+        let share = share_of(head, pension, benefit, lump);
+        shares[i] = share;
+        i += 1;
+    }
+    shares
+}
+
+// The lumps of the first n rows together.
+fn total_of(rows: [Row; 4], n: usize) -> u32
+    requires { ⌜ (n ≤ 4) × (total (lumpsOf (take n rows)) ≤ 1000000000) ⌝ }
+    ensures { λ r. ⌜ r ≡ total (lumpsOf (take n rows)) ⌝ }
+{
+    let mut sum: u32 = 0;
+    let mut i = 0;
+    while i < n {
+        let row = rows[i];
+        let lump = row.lump;
+        sum += lump.0;
+        i += 1;
+    }
+    sum
+}
+
+// The grant of an accepted case with n pensions.
+pub fn granted_quote(head: Head, pensions: [Pension; 4], n: usize) -> Quote
+    requires { ⌜ (n ≤ 4) × (lowest 3 (conditions head (take n pensions)) ≡ 0) ⌝ }
+    ensures { λ r. ⌜ r ≡ grantedQuote head (take n pensions) ⌝ }
+{
+    let benefits = limits::benefits_of(head, pensions, n);
+    let rows = grant::grant_of(benefits, n);
+    let sum = total_of(rows, n);
+    let shares = shares_of(head, pensions, benefits, rows, n);
+    Quote {
+        refusal: 0,
+        member: head.member,
+        total: LumpPence(sum),
+        shares,
+    }
+}
+
+pub fn refused_quote(refusal: u8) -> Quote
+    ensures { λ r. ⌜ r ≡ refusedQuote refusal ⌝ }
+{
+    Quote {
+        refusal,
+        member: 0,
+        total: LumpPence(0),
+        shares: [no_share(); 4],
+    }
+}
