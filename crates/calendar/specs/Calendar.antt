@@ -48,12 +48,12 @@ unfoldable pub earlier : Date → Date → Bool
 earlier a b =
     beforeBy (a .year) (b .year) (beforeBy (a .month) (b .month) (ltb (a .day) (b .day)))
 
--- months counted from the start of the year 0
+-- 12 times the year plus the month, by which months are counted
 unfoldable pub monthIndex : Date → ℕ
 monthIndex d = 12 * d .year + d .month
 
 -- "Months from a to b": 12 times the difference of years plus the difference of months, less one if b's
--- day is below a's; 0 where that would be below 0, as it can be only where b is before a
+-- day is below a's; 0 where that would be below 0, which dates of the calendar give only where b is before a
 unfoldable pub months : Date → Date → ℕ
 months a b = monthIndex b - monthIndex a - cond (ltb (b .day) (a .day)) 1 0
 

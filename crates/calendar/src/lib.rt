@@ -64,7 +64,7 @@ pub fn is_earlier(a: Date, b: Date) -> bool
     year | same_year & (month | same_month & day)
 }
 
-// Months since the start of the year 0, far within 32 bits.
+// 12 times the year plus the month, far within 32 bits.
 fn month_index(d: Date) -> u32
     ensures { λ r. ⌜ (r ≡ monthIndex d) × (r < 1048576) ⌝ }
 {

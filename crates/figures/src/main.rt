@@ -47,6 +47,53 @@ fn early_retirement() {
     text(b" (printed: 193.75)\n");
 }
 
+// The total lump of a case line, cut down to the pound.
+fn tax_free(line: &[u8]) {
+    let quote = split::quote(line);
+    let total = quote.total;
+    number(total.0 / 100);
+    text(b" pounds tax-free at most");
+}
+
+fn refusal(line: &[u8]) {
+    let quote = split::quote(line);
+    text(b"refusal ");
+    number(quote.refusal as u32);
+}
+
+fn examples() {
+    text(b"Document 000, example 2: ");
+    tax_free(b"0000000207AC080F07E0080F0101002DC6C007C2080F07E0080F000866000000000000");
+    text(b" (printed: 152,662)\nDocument 000, example 3: ");
+    tax_free(b"0000000307AD061E07E00A0F01020030D40007C1070107DF070100087D0728034101F4");
+    text(b" (printed: 163,267)\n");
+}
+
+fn refusals() {
+    text(b"Empty line: ");
+    refusal(b"");
+    text(b" (office: 2)\nBorn on 29 February 1900: ");
+    refusal(b"00000004076C021D07A303010101002DC6C00785030107A303010009C4000000000000");
+    text(b" (office: 3)\nAge 635 months, kind 1, F1 0: ");
+    refusal(b"0000000507B2060F07E7051F0101002DC6C007C9060107E7051F000000000000000000");
+    text(b" (office: 9)\n");
+}
+
+fn totals() {
+    text(b"Pensions of 50,000,000 together: ");
+    refusal(
+        b"0000000607B0060107E706010201017D784007C9060107E706010009C400000000000003017D784007DF040107E70601000000000000000000",
+    );
+    text(b" (office: passes)\nPensions of 50,000,001 together: ");
+    refusal(
+        b"0000000607B0060107E706010201017D784007C9060107E706010009C400000000000003017D784107DF040107E70601000000000000000000",
+    );
+    text(b" (office: 10)\n");
+}
+
 fn main() {
     early_retirement();
+    examples();
+    refusals();
+    totals();
 }

@@ -66,6 +66,7 @@ rival-over {rs} settled k ys capped over =
 pub settled-best : {bs : List Benefit} {floor : ℕ} {rs : List Row} → PositiveTops bs → totalCap bs ≤ floor
     → Settled bs floor rs → Best bs (lumpsOf rs)
 settled-best {bs} {rs} positive caps settled = record {
+  tops = positive;
   caps = lumps-capped (settled .state .run .matches) (settled .state .run .capped);
   priced = priced;
   exact = priced-exact bs (lumpsOf rs) positive priced;

@@ -1,12 +1,13 @@
--- Laws of fields: a digit is below 16, and a number of n digits below 16 to the n. Assumes nothing.
+-- Laws of fields: a digit is below 16, a number of n digits below 16 to the n, and a date is read part by part. Assumes nothing.
 use mathlib.Core.Path.{_≡_, refl}
 use Prim.Native.Nat.{ℕ, zero, suc, _+_, _*_, _^_, _<_, _≤_}
-use native.Mathlib.Nat.{mod-lt, pow-suc, pow-zero, pow-le-pow-right, lt-of-lt-of-le}
+use native.Mathlib.Nat.{add-assoc, pow-suc, pow-le-pow-right, lt-of-lt-of-le}
 use native.Mathlib.Numerals.{add-one}
 use native.Mathlib.Omega.{arith}
 use mathlib.Core.List.{List}
 use lib.ListN.{length, List·getD-eq-default}
-use Rattle.split.specs.Frame.{digitAt, numberAt, hexValue}
+use Rattle.calendar.specs.Calendar.{date}
+use Rattle.split.specs.Frame.{digitAt, numberAt, dateAt, hexValue}
 
 pub digit-below : (s : List ℕ) (at : ℕ) → digitAt s at < 16
 unfolding digitAt
@@ -33,3 +34,10 @@ unfolding numberAt digitAt hexValue
 number-past s at zero h = refl
 number-past s at (suc n) h =
     simp (number-past s at n h, List·getD-eq-default s 0 {n = at + n} (omega arith))
+
+-- a date is read part by part
+pub date-read : (s : List ℕ) (at at₁ at₂ at₃ year month day : ℕ) → (year ≡ numberAt s at 4) × (at₁ ≡ at + 4)
+    → (month ≡ numberAt s at₁ 2) × (at₂ ≡ at₁ + 2) → (day ≡ numberAt s at₂ 2) × (at₃ ≡ at₂ + 2)
+    → (date year month day ≡ dateAt s at) × (at₃ ≡ at + 8)
+unfolding dateAt
+date-read s at at₁ at₂ at₃ year month day y m d = (cc (add-assoc at 4 2), omega arith)

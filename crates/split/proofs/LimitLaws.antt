@@ -91,8 +91,11 @@ pub pensions-next : (bs : List Benefit) (i t : ℕ) → i < length bs → t ≡ 
 pensions-next bs i t place e = rw (take-next bs i noBenefit place, pensions-more, e)
 
 -- the total of fewer pensions is at most that of more
-pub pensions-part : (bs : List Benefit) (i n : ℕ) → i ≤ n → totalPension (take i bs) ≤ totalPension (take n bs)
+pensions-part : (bs : List Benefit) (i n : ℕ) → i ≤ n → totalPension (take i bs) ≤ totalPension (take n bs)
 pensions-part bs zero n h = omega arith
 pensions-part bs (suc i) zero h = absurd (omega arith)
 pensions-part [] (suc i) (suc n) h = omega arith
 pensions-part (b ∷ bs) (suc i) (suc n) h = omega (arith, pensions-part bs i n (omega arith))
+
+pub pensions-within : (bs : List Benefit) (i n t : ℕ) → i ≤ n → t ≡ totalPension (take i bs) → t ≤ totalPension (take n bs)
+pensions-within bs i n t h e = rw e (pensions-part bs i n h)

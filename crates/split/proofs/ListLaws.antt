@@ -1,9 +1,10 @@
 -- Laws of lists for loops that go through one or fill one: `any` by the next element or by one more at the end, what a
--- test that holds of none says of each, and a part that grows by a store. Assumes nothing.
+-- test that holds of none says of each, a part that grows by a store, and how far a loop has come. Assumes nothing.
 use mathlib.Core.Path.{_≡_, refl, sym, _∙_, ap}
 use mathlib.Core.Bool.{Bool, true, false, _||_, or-false, or-assoc, true≢false}
 use mathlib.Core.List.{List, [], _∷_, _++_, map, map-append}
-use Prim.Native.Nat.{ℕ, zero, suc, _+_, _<_, _≤_}
+use Prim.Native.Nat.{ℕ, zero, suc, _+_, _-_, _<_, _≤_}
+use native.Mathlib.Nat.{le-antisymm}
 use native.Mathlib.Numerals.{add-one}
 use native.Mathlib.Omega.{arith}
 use lib.ListN.{length, getD, take, drop, set, drop-of-length-le}
@@ -62,3 +63,22 @@ pub map-stored : {A B : Type 0} (f : A → B) (xs : List A) (ys : List B) (i : �
     → take (i + 1) (set ys i y) ≡ map f (take (i + 1) xs)
 map-stored f xs ys i d y h g t e =
     rw (take-set-more ys i y g, t, e, take-next xs i d h) (sym (map-append f (take i xs) (getD xs i d ∷ [])))
+
+-- numbers up to a list's known length
+pub up-to : {A : Type 0} (l : List A) {k n : ℕ} → length l ≡ n → k ≤ n → k ≤ length l
+up-to l e h = rw e h
+
+-- one turn more leaves one fewer
+pub one-fewer : (i n : ℕ) → i < n → n - i ≡ suc (n - (i + 1))
+one-fewer i n h = omega arith
+
+pub fewer : (i n : ℕ) → i < n → n - (i + 1) < n - i
+fewer i n h = omega arith
+
+-- the number before
+pub one-before : (i : ℕ) → 0 < i → i ≡ suc (i - 1)
+one-before i h = omega arith
+
+-- what holds up to a place holds up to n where the place has come to n
+pub at-end : {A : Type 0} (f g : ℕ → A) (i n : ℕ) → i ≤ n → n ≤ i → f i ≡ g i → f n ≡ g n
+at-end f g i n low high e = let whole : i ≡ n = le-antisymm low high in rw whole at e

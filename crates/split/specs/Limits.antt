@@ -26,7 +26,7 @@ abbrev pub totalPension : List Benefit → ℕ
 totalPension [] = 0
 totalPension (b ∷ bs) = b .pension .0 + totalPension bs
 
--- the sum of the caps
+-- the sum of the caps, which no split within them exceeds
 abbrev pub totalCap : List Benefit → ℕ
 totalCap [] = 0
 totalCap (b ∷ bs) = b .cap .0 + totalCap bs
@@ -76,6 +76,8 @@ PositiveTops (b ∷ bs) = (1 ≤ b .factor .top) × PositiveTops bs
 -- What is claimed of a grant: it is a split within the caps, keeps both limits, and no split does better under the
 -- priced limit, nor by more than a penny under the exact one. Rivals are all lists of natural numbers.
 pub record Best (bs : List Benefit) (xs : List ℕ) : Type 0 where
+  -- nothing is lost by multiplying with the tops
+  pub tops : PositiveTops bs
   pub caps : WithinCaps bs xs
   pub priced : KeepsPriced bs xs
   pub exact : KeepsExact bs xs

@@ -43,7 +43,7 @@ fn remaining_of(b: Benefit, lump: LumpPence) -> YearlyPence
     YearlyPence(pension.0 - given_up as u32)
 }
 
-// The lump paid at 55, for kind 2.
+// The second instalment, which kind 2 has.
 fn second_of(p: Pension, lump: LumpPence) -> LumpPence
     requires { ⌜ (lump .0 ≤ 1000000000) × (p .terms .increase ≤ 10000) ⌝ }
     ensures { λ r. ⌜ r .0 ≡ secondOf p (lump .0) ⌝ }

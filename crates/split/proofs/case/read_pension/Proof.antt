@@ -1,13 +1,22 @@
 -- `read_pension` is the definition `pensionAt`, field by field.
-use native.Mathlib.Nat.{add-assoc}
 use borrow.Author.Needs.{needs}
-use Rattle.split.specs.Case.{pensionAt}
+use Rattle.split.proofs.CaseLaws.{pension-read}
 use Rattle.split.proofs.case.read_pension.Statement.{statement}
 use Rattle.split.proofs.case.read_pension.Tie as tie
 
 returns : tie.Need-returns
-unfolding pensionAt
-returns c = let at = c .before .before .before .before .before .before .before .before .before .before .before .args .at .at in cc (add-assoc at 2 8, add-assoc at 10 16, add-assoc at 26 2)
+returns c =
+    let terms = c .before in
+    let lift = terms .before .before in
+    let service = lift .before .before in
+    let stated = service .before .before in
+    let kind = stated .before .before in
+    let args = kind .before .before .args in
+    pension-read (args .line .now) (args .at .at) (kind .byte .result .next .at) (stated .number .result .next .at)
+    (service .read-service .result .next .at) (lift .byte2 .result .next .at) (kind .byte .result .value)
+    (stated .number .result .value) (lift .byte2 .result .value) (service .read-service .result .value)
+    (terms .read-terms .result) (kind .byte .ensures) (stated .number .ensures) (service .read-service .ensures)
+    (lift .byte2 .ensures) (terms .read-terms .ensures)
 
 pub read-pension-spec : {M : Type 1} → statement M
 read-pension-spec =

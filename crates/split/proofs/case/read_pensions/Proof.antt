@@ -1,12 +1,14 @@
 -- `read_pensions` reads the pensions one by one: the first `i` are those of the definition `pensionsAt`.
-use Prim.Native.Nat.{_-_, _≤_}
-use mathlib.Core.Path.{_≡_, refl}
-use native.Mathlib.Nat.{le-antisymm}
-use native.Mathlib.Omega.{arith}
+use Prim.Native.Nat.{ℕ, _-_, _≤_, _<_, zero-le}
+use mathlib.Core.Path.{_≡_, refl, _∙_}
+use native.Mathlib.Nat.{le-of-lt, lt-of-lt-of-le, mul-le-mul-left, mul-le-mul-right}
+use native.Mathlib.Numerals.{add-one-le}
 use lib.ListN.{length, take, length-set}
 use borrow.Author.Needs.{needs}
+use mir.Facts.{fits-below}
 use Rattle.split.specs.Case.{pensionsAt}
-use Rattle.split.proofs.CaseLaws.{pensions-stored}
+use Rattle.split.proofs.ListLaws.{up-to, fewer, at-end}
+use Rattle.split.proofs.CaseLaws.{pension-start, pensions-stored}
 use Rattle.split.proofs.case.read_pensions.Statement.{statement}
 use Rattle.split.proofs.case.read_pensions.Tie as tie
 
@@ -18,16 +20,30 @@ abbrev μ-loop : tie.MeasureT-loop
 
 loop-holds : tie.Need-loop-holds Inv-loop μ-loop
 unfolding pensionsAt
-loop-holds c = (omega arith, refl, refl)
+loop-holds c = (zero-le, refl, refl)
 
-loop-less : tie.Need-loop-less Inv-loop μ-loop
-loop-less c = omega arith
+-- a place in the loop is one of the four
+place : (c : tie.In-loop Inv-loop μ-loop) → c .before .loop .i < 4
+place c = lt-of-lt-of-le (c .loop-test .taken) (c .before .before .before .before .pre)
 
 loop-again : tie.Need-loop-again Inv-loop μ-loop
-loop-again c = (omega arith, simp length-set (c .before .before .loop .inv .1), pensions-stored _ (c .before .before .loop .pensions) (c .before .before .loop .i) _ (omega arith) (c .before .before .loop .inv .2) (c .read-pension2 .ensures))
+loop-again c =
+    let l = c .before .before .loop in
+    let a = c .before .before .before .before .before .args in (
+      add-one-le (c .before .loop-test .taken),
+      length-set (l .pensions) (l .i) (c .read-pension2 .result) ∙ l .inv .1,
+      pensions-stored (a .line .now) (l .pensions) (l .i) (c .read-pension2 .result)
+          (up-to (l .pensions) (l .inv .1) (place (c .before))) (l .inv .2) (c .read-pension2 .ensures),
+    )
 
 returns : tie.Need-returns Inv-loop μ-loop
-returns c = (simp (← le-antisymm (c .before .loop .inv .0) (c .loop-test .left), c .before .loop .inv .2), c .before .loop .inv .1)
+returns c =
+    let l = c .before .loop in
+    let a = c .before .before .before .before .args in (
+      at-end (λ (k : ℕ). take k (l .pensions)) (λ (k : ℕ). pensionsAt (a .line .now) k) (l .i) (a .n) (l .inv .0)
+          (c .loop-test .left) (l .inv .2),
+      l .inv .1,
+    )
 
 pub read-pensions-spec : {M : Type 1} → statement M
 read-pensions-spec =
@@ -37,12 +53,12 @@ read-pensions-spec =
     μ-loop
     (search needs)
     loop-holds
-    (search needs)
-    (search needs)
-    (search needs)
-    (search needs)
-    (search needs)
-    (search needs)
-    loop-less
+    (λ c. fits-below tt (mul-le-mul-left 44 (le-of-lt (place c))))
+    (λ c. fits-below tt (pension-start (c .before .loop .i) (place c)))
+    (λ c κs. pension-start (c .before .loop .i) (place c))
+    (λ c. fits-below tt (mul-le-mul-right 28 (le-of-lt (place (c .before)))))
+    (λ c. place (c .before))
+    (λ c. fits-below tt (add-one-le (place (c .before))))
+    (λ c. fewer _ _ (c .before .loop-test .taken))
     loop-again
     returns)

@@ -1,13 +1,16 @@
 -- `read_service` is the definition `serviceAt`, date by date.
-use native.Mathlib.Omega.{arith}
 use borrow.Author.Needs.{needs}
-use Rattle.split.specs.Case.{serviceAt}
+use Rattle.split.proofs.CaseLaws.{service-read}
 use Rattle.split.proofs.case.read_service.Statement.{statement}
 use Rattle.split.proofs.case.read_service.Tie as tie
 
 returns : tie.Need-returns
-unfolding serviceAt
-returns c = (cc, omega arith)
+returns c =
+    let end = c .before .before .before in
+    let start = end .before .before in
+    let args = start .before .before .args in
+    service-read (args .line .now) (args .at .at) (start .date .result .next .at) (end .date2 .result .next .at)
+    (start .date .result .value) (end .date2 .result .value) (start .date .ensures) (end .date2 .ensures)
 
 pub read-service-spec : {M : Type 1} → statement M
 read-service-spec = tie.close (tie.spec (search needs) (search needs) returns)

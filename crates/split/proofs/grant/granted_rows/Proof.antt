@@ -1,11 +1,13 @@
 -- `granted_rows` takes the turns of the definition `turns`: those left from here give what all give from the start.
-use Prim.Native.Nat.{ℕ, _-_, _≤_, _<_}
+use Prim.Native.Nat.{ℕ, _-_, _≤_, _<_, zero-le}
 use mathlib.Core.Path.{_≡_, sym, _∙_, ap}
-use native.Mathlib.Nat.{sub-zero, sub-eq-zero-of-le}
+use native.Mathlib.Nat.{lt-of-lt-of-le, sub-zero, sub-eq-zero-of-le}
+use native.Mathlib.Numerals.{add-one-le}
 use native.Mathlib.Omega.{arith}
 use lib.ListN.{length, take, length-set}
-use borrow.Author.Needs.{needs}
+use mir.Facts.{fits-below}
 use Rattle.split.specs.Grant.{turns}
+use Rattle.split.proofs.ListLaws.{up-to, one-fewer, fewer}
 use Rattle.split.proofs.Rows.{rowAt}
 use Rattle.split.proofs.GrantLaws.{prices-positive, turns-next, turns-idle}
 use Rattle.split.proofs.grant.granted_rows.Statement.{statement}
@@ -20,7 +22,7 @@ abbrev μ-loop : tie.MeasureT-loop
 μ-loop n limit now₀ left₀ done₀ now left done = n - done
 
 loop-holds : tie.Need-loop-holds Inv-loop μ-loop
-loop-holds c = (omega arith, search needs, c .pre .1, simp sub-zero)
+loop-holds c = (zero-le, c .good .0 .1 .0 .1, c .pre .1, simp sub-zero)
 
 -- no row waits
 returns : tie.Need-returns Inv-loop μ-loop
@@ -30,18 +32,28 @@ returns c =
     (sym (l .inv .3 ∙ turns-idle n _ _ (l .now) (omega (arith, c .before .cheapest-row .ensures))), l .inv .1)
 
 turn-requires : tie.Need-turn-requires Inv-loop μ-loop
-turn-requires c κs = (omega arith, c .before .before .before .loop .inv .2 _ (omega arith))
+turn-requires c κs =
+    let l = c .before .before .before in
+    (lt-of-lt-of-le (c .if1 .left) (l .before .pre .0), l .loop .inv .2 _ (c .if1 .left))
+
+add-done : tie.Need-add-done Inv-loop μ-loop
+add-done c =
+    let test = c .before .before .before .before in
+    fits-below tt (add-one-le (lt-of-lt-of-le (test .loop-test .taken) (test .before .before .pre .0)))
 
 loop-again : tie.Need-loop-again Inv-loop μ-loop
 loop-again c =
-    let l = c .before .before .before .before .before .loop in
-    let n = c .before .before .before .before .before .before .args .n in
+    let test = c .before .before .before .before in
+    let l = test .before .loop in
+    let n = test .before .before .args .n in
     let e = c .before .turn .ensures in (
-      omega arith,
+      add-one-le (test .loop-test .taken),
       simp (e .0, length-set) (l .inv .1),
       prices-positive n _ _ (l .now) _ (e .0) (l .inv .2),
       l .inv .3
-          ∙ turns-next n (n - l .done) _ _ (l .left) _ (l .now) _ (omega arith) (omega arith) (omega arith)
+          ∙ turns-next n (n - l .done) _ _ (l .left) _ (l .now) _
+          (one-fewer (l .done) n (test .loop-test .taken)) (c .before .before .if1 .left)
+          (up-to (l .now) (l .inv .1) (test .before .before .pre .0))
           (c .before .before .before .cheapest-row .ensures) (e .0) (e .1),
     )
 
@@ -60,10 +72,10 @@ granted-rows-spec =
     Inv-loop
     μ-loop
     loop-holds
-    (search needs)
+    (λ c κs. c .before .before .pre .0)
     returns
     turn-requires
-    (search needs)
-    (search needs)
+    add-done
+    (λ c. fewer _ _ (c .before .before .before .before .loop-test .taken))
     loop-again
     returns-2)

@@ -1,7 +1,10 @@
 -- `turn` stores the served row and takes its cost away: the most costs at most what is left, so neither wraps.
-use Prim.Native.Nat.{_*_, _≤_}
-use native.Mathlib.Omega.{arith}
-use borrow.Author.Needs.{needs}
+use Prim.Native.Nat.{ℕ, _-_, _*_, _≤_}
+use mathlib.Core.Path.{ap}
+use native.Mathlib.Nat.{le-of-lt, mul-le-mul-right}
+use lib.ListN.{set}
+use mir.Facts.{fits-le, fits-below}
+use Rattle.split.specs.Grant.{served}
 use Rattle.split.proofs.Rows.{rowAt}
 use Rattle.split.proofs.Turns.{most-affordable}
 use Rattle.split.proofs.grant.turn.Statement.{statement}
@@ -13,25 +16,30 @@ affordable : (c : tie.After-most-of)
     ≤ c .before .before .args .left
 affordable c = rw (c .most-of .ensures) (most-affordable _ (c .before .before .args .left))
 
-mul-spent : tie.Need-mul-spent
-mul-spent c = omega (arith, affordable (c .before .before))
+mul-row : tie.Need-mul-row
+mul-row c = fits-below tt (mul-le-mul-right 24 (le-of-lt (c .pre .0)))
 
-sub-t18 : tie.Need-sub-t18
-sub-t18 c = omega (arith, affordable (c .before .before))
+mul-spent : tie.Need-mul-spent
+mul-spent c =
+    fits-le (affordable (c .before .before)) (c .before .before .before .before .fits .left)
 
 returns : tie.Need-returns
-returns c = (cc, cc)
+returns c =
+    let args = c .before .before .before .before .args in
+    let row = rowAt (args .t1) (args .place) in
+    let most = c .before .before .most-of .ensures in
+    (ap (λ (g : ℕ). set (args .t1) (args .place) (served row g)) most, ap (λ (g : ℕ). args .left - g * row .price) most)
 
 pub turn-spec : {M : Type 1} → statement M
 turn-spec =
     tie.close
     (tie.spec
-    (search needs)
-    (search needs)
-    (search needs)
-    (search needs)
-    (search needs)
-    (search needs)
+    mul-row
+    (λ c. c .pre .0)
+    (λ c κs. c .before .pre .1)
+    (λ c. mul-row (c .before .before .before))
+    (λ c. c .before .before .before .pre .0)
+    (λ c. fits-below tt (le-of-lt (c .before .most-of .ok)))
     mul-spent
-    sub-t18
+    (λ c. affordable (c .before .before))
     returns)

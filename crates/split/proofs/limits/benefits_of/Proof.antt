@@ -1,14 +1,15 @@
 -- `benefits_of` works the pensions out one by one: the first `i` are those of the first `i` pensions.
-use Prim.Native.Nat.{_-_, _≤_}
-use mathlib.Core.Path.{_≡_, refl}
-use native.Mathlib.Nat.{le-antisymm}
-use native.Mathlib.Omega.{arith}
-use lib.ListN.{length, take, length-set}
-use borrow.Author.Needs.{needs}
+use Prim.Native.Nat.{ℕ, _-_, _≤_, _<_, zero-le}
+use mathlib.Core.Path.{_≡_, refl, sym, _∙_, subst}
+use native.Mathlib.Nat.{le-of-lt, lt-of-lt-of-le, mul-le-mul-right}
+use native.Mathlib.Numerals.{add-one-le}
+use lib.ListN.{length, getD, take, length-set}
+use mir.Facts.{fits-below}
+use Rattle.factors.proofs.Laws.{FactorRange}
 use Rattle.split.specs.Case.{noPension}
 use Rattle.split.specs.Refusal.{ageOf}
-use Rattle.split.specs.Benefits.{benefitOf, benefitsOf}
-use Rattle.split.proofs.ListLaws.{map-stored}
+use Rattle.split.specs.Benefits.{factorOf, benefitOf, benefitsOf}
+use Rattle.split.proofs.ListLaws.{map-stored, up-to, fewer, at-end}
 use Rattle.split.proofs.limits.benefits_of.Statement.{statement}
 use Rattle.split.proofs.limits.benefits_of.Tie as tie
 
@@ -20,30 +21,42 @@ abbrev μ-loop : tie.MeasureT-loop
 μ-loop head n pensions age benefits₀ i₀ benefits i = n - i
 
 loop-holds : tie.Need-loop-holds Inv-loop μ-loop
-loop-holds c = (omega arith, refl, refl)
+loop-holds c = (zero-le, refl, refl)
+
+-- a place in the loop is one of the four
+place : (c : tie.In-loop Inv-loop μ-loop) → c .before .loop .i < 4
+place c = lt-of-lt-of-le (c .loop-test .taken) (c .before .before .before .before .before .pre .0)
 
 benefit-of-requires : tie.Need-benefit-of-requires Inv-loop μ-loop
 unfolding ageOf
 benefit-of-requires c κs =
     let age = c .before .before .before .months-between .ensures in
-    let range = c .before .before .before .before .before .before .pre .1 _ (c .before .loop-test .taken) in
-    (age, range .0, rw age (range .1))
+    let start = c .before .before .before .before .before .before in
+    let i = c .before .before .loop .i in
+    let range = start .pre .1 i (c .before .loop-test .taken) in
+    (age, range .0, subst (λ (a : ℕ). FactorRange (factorOf a (getD (start .args .t2) i noPension))) (sym age) (range .1))
 
 loop-again : tie.Need-loop-again Inv-loop μ-loop
 loop-again c =
-    let l = c .before .before .before .loop in
-    let a = c .before .before .before .before .before .before .before .args in
-    let size : length (a .t2) ≡ 4 = search needs in (
-      omega arith,
-      simp length-set (l .inv .1),
-      map-stored (benefitOf (a .head)) (a .t2) (l .benefits) _ noPension _ (omega arith) (omega arith) (l .inv .2)
+    let test = c .before .before in
+    let l = test .before .loop in
+    let start = test .before .before .before .before .before in
+    let four : length (start .args .t2) ≡ 4 = start .good .1 .0 .1 .0 .1 in (
+      add-one-le (test .loop-test .taken),
+      length-set (l .benefits) (l .i) (c .benefit-of .result) ∙ l .inv .1,
+      map-stored (benefitOf (start .args .head)) (start .args .t2) (l .benefits) (l .i) noPension (c .benefit-of .result)
+          (up-to (start .args .t2) four (place test)) (up-to (l .benefits) (l .inv .1) (place test)) (l .inv .2)
           (c .benefit-of .ensures),
     )
 
 returns : tie.Need-returns Inv-loop μ-loop
 returns c =
     let l = c .before .loop in
-    (simp (← le-antisymm (l .inv .0) (c .loop-test .left), l .inv .2), l .inv .1)
+    let a = c .before .before .before .before .before .args in (
+      at-end (λ (k : ℕ). take k (l .benefits)) (λ (k : ℕ). benefitsOf (a .head) (take k (a .t2))) (l .i) (a .n) (l .inv .0)
+          (c .loop-test .left) (l .inv .2),
+      l .inv .1,
+    )
 
 pub benefits-of-spec : {M : Type 1} → statement M
 benefits-of-spec =
@@ -51,14 +64,14 @@ benefits-of-spec =
     (tie.spec
     Inv-loop
     μ-loop
-    (search needs)
+    (λ c κs. tt)
     loop-holds
-    (search needs)
-    (search needs)
+    (λ c. fits-below tt (mul-le-mul-right 28 (le-of-lt (place c))))
+    place
     benefit-of-requires
-    (search needs)
-    (search needs)
-    (search needs)
-    (search needs)
+    (λ c. fits-below tt (mul-le-mul-right 32 (le-of-lt (place (c .before .before)))))
+    (λ c. place (c .before .before))
+    (λ c. fits-below tt (add-one-le (place (c .before .before))))
+    (λ c. fewer _ _ (c .before .before .loop-test .taken))
     loop-again
     returns)

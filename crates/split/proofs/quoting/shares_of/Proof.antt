@@ -1,14 +1,15 @@
 -- `shares_of` stores the shares one by one: the first `i` are those of the first `i` pensions, and no share fills the rest.
-use Prim.Native.Nat.{_-_, _≤_}
+use Prim.Native.Nat.{_-_, _≤_, _<_, zero-le}
 use mathlib.Core.List.{_++_}
 use mathlib.Core.Path.{_≡_, ap}
-use native.Mathlib.Nat.{le-antisymm}
-use native.Mathlib.Omega.{arith}
+use native.Mathlib.Nat.{le-antisymm, le-of-lt, lt-of-lt-of-le, mul-le-mul-right}
+use native.Mathlib.Numerals.{add-one-le}
 use lib.ListN.{length, take, replicate}
-use borrow.Author.Needs.{needs}
+use mir.Facts.{fits-below}
 use Rattle.split.specs.declared.shares.Share.{Share}
 use Rattle.split.specs.Grant.{lumpsOf}
 use Rattle.split.specs.Quote.{sharesOf, noShare}
+use Rattle.split.proofs.ListLaws.{up-to, fewer}
 use Rattle.split.proofs.ShareLaws.{benefit-at, shares-next, shares-whole}
 use Rattle.split.proofs.quoting.shares_of.Statement.{statement}
 use Rattle.split.proofs.quoting.shares_of.Tie as tie
@@ -21,16 +22,26 @@ abbrev μ-loop : tie.MeasureT-loop
 μ-loop head n pensions benefits rows shares₀ i₀ shares i = n - i
 
 loop-holds : tie.Need-loop-holds Inv-loop μ-loop
-loop-holds c = (omega arith, ap (λ (s : Share). replicate 4 s) (c .no-share .ensures))
+loop-holds c = (zero-le, ap (λ (s : Share). replicate 4 s) (c .no-share .ensures))
+
+-- the arrays of pensions and of rows have four places
+pensions-four : (c : tie.Start Inv-loop μ-loop) → length (c .args .t2) ≡ 4
+pensions-four c = c .good .1 .0 .1 .0 .1
+
+rows-four : (c : tie.Start Inv-loop μ-loop) → length (c .args .t4) ≡ 4
+rows-four c = c .good .1 .1 .1 .0 .1 .0 .1
+
+-- a place in the loop is one of the four
+place : (c : tie.In-loop Inv-loop μ-loop) → c .before .loop .i < 4
+place c = lt-of-lt-of-le (c .loop-test .taken) (c .before .before .before .pre .places)
 
 share-of-requires : tie.Need-share-of-requires Inv-loop μ-loop
 share-of-requires c κs =
     let loop = c .before .before .before .before .before .loop in
     let start = c .before .before .before .before .before .before .before in
-    let place = c .before .before .before .before .loop-test .taken in
-    let four : length (start .args .t2) ≡ 4 = search needs in (
-      benefit-at (start .args .head) (start .args .t2) (start .args .t3) (start .args .n) (loop .i) (omega arith) place
-          (start .pre .benefits),
+    let place = c .before .before .before .before .loop-test .taken in (
+      benefit-at (start .args .head) (start .args .t2) (start .args .t3) (start .args .n) (loop .i)
+          (up-to (start .args .t2) (pensions-four start) (start .pre .places)) place (start .pre .benefits),
       start .pre .ranges (loop .i) place,
       start .pre .increases (loop .i) place,
     )
@@ -38,22 +49,19 @@ share-of-requires c κs =
 loop-again : tie.Need-loop-again Inv-loop μ-loop
 loop-again c =
     let loop = c .before .before .before .before .before .before .loop in
-    let start = c .before .before .before .before .before .before .before .before in
-    let four : length (start .args .t2) ≡ 4 = search needs in
-    let rows : length (start .args .t4) ≡ 4 = search needs in (
-      omega arith,
-      shares-next (start .args .head) (start .args .t2) (start .args .t4) (loop .i) (c .share-of .result) (loop .shares) four rows
-          (omega arith) (loop .inv .1) (c .share-of .ensures),
+    let test = c .before .before .before .before .before in
+    let start = c .before .before .before .before .before .before .before .before in (
+      add-one-le (test .loop-test .taken),
+      shares-next (start .args .head) (start .args .t2) (start .args .t4) (loop .i) (c .share-of .result) (loop .shares)
+          (pensions-four start) (rows-four start) (place test) (loop .inv .1) (c .share-of .ensures),
     )
 
 returns : tie.Need-returns Inv-loop μ-loop
 returns c =
     let loop = c .before .loop in
     let start = c .before .before .before in
-    let four : length (start .args .t2) ≡ 4 = search needs in
-    let rows : length (start .args .t4) ≡ 4 = search needs in
-    shares-whole (start .args .head) (start .args .t2) (start .args .t4) (loop .i) (start .args .n) (loop .shares) four rows
-    (start .pre .places) (le-antisymm (loop .inv .0) (c .loop-test .left)) (loop .inv .1)
+    shares-whole (start .args .head) (start .args .t2) (start .args .t4) (loop .i) (start .args .n) (loop .shares)
+    (pensions-four start) (rows-four start) (start .pre .places) (le-antisymm (loop .inv .0) (c .loop-test .left)) (loop .inv .1)
 
 pub shares-of-spec : {M : Type 1} → statement M
 shares-of-spec =
@@ -61,18 +69,18 @@ shares-of-spec =
     (tie.spec
     Inv-loop
     μ-loop
-    (search needs)
+    (λ c κs. tt)
     loop-holds
-    (search needs)
-    (search needs)
-    (search needs)
-    (search needs)
-    (search needs)
-    (search needs)
+    (λ c. fits-below tt (mul-le-mul-right 28 (le-of-lt (place c))))
+    place
+    (λ c. fits-below tt (mul-le-mul-right 32 (le-of-lt (place (c .before)))))
+    (λ c. place (c .before))
+    (λ c. fits-below tt (mul-le-mul-right 24 (le-of-lt (place (c .before .before)))))
+    (λ c. place (c .before .before))
     share-of-requires
-    (search needs)
-    (search needs)
-    (search needs)
-    (search needs)
+    (λ c. fits-below tt (mul-le-mul-right 12 (le-of-lt (place (c .before .before .before .before .before)))))
+    (λ c. place (c .before .before .before .before .before))
+    (λ c. fits-below tt (add-one-le (place (c .before .before .before .before .before))))
+    (λ c. fewer _ _ (c .before .before .before .before .before .loop-test .taken))
     loop-again
     returns)

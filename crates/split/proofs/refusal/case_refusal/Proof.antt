@@ -1,102 +1,90 @@
-use native.Mathlib.Nat.{le-antisymm}
-use Prim.Native.Nat.{_<_}
-use Rattle.split.proofs.RefusalLaws.{partly-next, total-next, total-above, total-within}
-use Prim.Native.Nat.{ℕ, _+_, _-_, _*_, _≤_}
-use mathlib.Core.Path.{_≡_, refl, sym, _∙_, ap}
+-- `case_refusal` keeps the lowest condition of the head and the first `i` pensions, and their total, which counts at the end.
+use Prim.Native.Nat.{ℕ, _-_, _*_, _≤_, _<_, zero-le}
+use mathlib.Core.Path.{_≡_, refl, sym, _∙_}
+use native.Mathlib.Nat.{le-of-lt, lt-of-lt-of-le, mul-le-mul-right}
+use native.Mathlib.Numerals.{add-one-le}
 use native.Mathlib.Omega.{arith}
 use lib.ListN.{length, take}
-use Rattle.split.specs.Refusal.{ageOf, lowest, totalStated, conditions}
-use Rattle.split.proofs.RefusalLaws.{partly, partly-start, partly-more, conditions-total, total-more}
 use borrow.Author.Needs.{needs}
+use mir.Facts.{fits-below}
+use Rattle.split.specs.Refusal.{ageOf, lowest, totalStated}
+use Rattle.split.proofs.ListLaws.{up-to, fewer, at-end}
+use Rattle.split.proofs.RefusalLaws.{partly, partly-start, partly-next, total-next, total-above, total-within}
 use Rattle.split.proofs.refusal.case_refusal.Statement.{statement}
 use Rattle.split.proofs.refusal.case_refusal.Tie as tie
-use Rattle.split.proofs.refusal.case_refusal.Reads as reads
-use Rattle.split.proofs.refusal.case_refusal.Lts as lts
-use Rattle.calendar.proofs.months_between.Reads as months-between-reads
-use Rattle.split.proofs.refusal.head_refusal.Reads as head-refusal-reads
-use Rattle.split.proofs.refusal.lower_of.Reads as lower-of-reads
-use Rattle.split.proofs.refusal.pension_refusal.Reads as pension-refusal-reads
 
 abbrev Inv-loop : tie.InvT-loop
-Inv-loop head n pensions age refusal₀ total₀ i₀ refusal total i = (i ≤ n) × (refusal ≡ lowest 3 (partly head (take i pensions))) × (total ≡ totalStated (take i pensions)) × (total ≤ i * 4294967295)
+Inv-loop head n pensions age refusal₀ total₀ i₀ refusal total i =
+    (i ≤ n) × (refusal ≡ lowest 3 (partly head (take i pensions))) × (total ≡ totalStated (take i pensions))
+    × (total ≤ i * 4294967295)
 
 abbrev μ-loop : tie.MeasureT-loop
 μ-loop head n pensions age refusal₀ total₀ i₀ refusal total i = n - i
 
--- src/refusal.rt:219:9
-months-between-requires : tie.Need-months-between-requires Inv-loop μ-loop
-months-between-requires c κs = search needs
-
--- src/refusal.rt:220:9
 head-refusal-requires : tie.Need-head-refusal-requires Inv-loop μ-loop
 unfolding ageOf
-head-refusal-requires c κs = search needs
+head-refusal-requires c κs = c .months-between .ensures
 
--- src/refusal.rt:223:5
 loop-holds : tie.Need-loop-holds Inv-loop μ-loop
-loop-holds c = (omega arith, c .head-refusal .ensures ∙ sym (partly-start (c .before .before .before .before .args .head)), refl, omega arith)
+loop-holds c =
+    (zero-le, c .head-refusal .ensures ∙ sym (partly-start (c .before .before .before .before .args .head)), refl, zero-le)
 
--- src/refusal.rt:224:23
-mul-pension : tie.Need-mul-pension Inv-loop μ-loop
-mul-pension c = search needs
+-- a place in the loop is one of the four
+place : (c : tie.In-loop Inv-loop μ-loop) → c .before .loop .i < 4
+place c = lt-of-lt-of-le (c .loop-test .taken) (c .before .before .before .before .before .before .pre)
 
--- src/refusal.rt:224:23
-array-copy-out-pension : tie.Need-array-copy-out-pension Inv-loop μ-loop
-array-copy-out-pension c = search needs
-
--- src/refusal.rt:225:37
 pension-refusal-requires : tie.Need-pension-refusal-requires Inv-loop μ-loop
 unfolding ageOf
-pension-refusal-requires c κs = search needs
+pension-refusal-requires c κs = c .before .before .before .before .months-between .ensures
 
--- src/refusal.rt:225:9
-lower-of-requires : tie.Need-lower-of-requires Inv-loop μ-loop
-lower-of-requires c κs = search needs
-
--- src/refusal.rt:226:18
-cast-total : tie.Need-cast-total Inv-loop μ-loop
-cast-total c = search needs
-
--- src/refusal.rt:226:9
-add-total : tie.Need-add-total Inv-loop μ-loop
-add-total c = search needs
-
--- src/refusal.rt:227:9
-add-i : tie.Need-add-i Inv-loop μ-loop
-add-i c = search needs
-
--- src/refusal.rt:223:5
-loop-less : tie.Need-loop-less Inv-loop μ-loop
-loop-less c = search needs
-
--- src/refusal.rt:223:5
 loop-again : tie.Need-loop-again Inv-loop μ-loop
-loop-again c = let loop = c .before .before .before .before .before .loop in
-    let start = c .before .before .before .before .before .before .before .before .before .before in
-    let place : loop .i < length (start .args .t2) = search needs in (
-      omega arith,
-      partly-next (start .args .head) (start .args .t2) (loop .i) _ _ _ place (loop .inv .1) (c .before .before .pension-refusal .ensures) (c .before .lower-of .ensures),
-      total-next (start .args .t2) (loop .i) (loop .total) place (loop .inv .2),
+loop-again c =
+    let test = c .before .before .before .before in
+    let loop = test .before .loop in
+    let start = test .before .before .before .before .before .before in
+    let pension : loop .i < length (start .args .t2) =
+    up-to (start .args .t2) (start .good .1 .0 .1 .0 .1) (place test)
+    in (
+      add-one-le (test .loop-test .taken),
+      partly-next (start .args .head) (start .args .t2) (loop .i) _ _ _ pension (loop .inv .1)
+          (c .before .before .pension-refusal .ensures) (c .before .lower-of .ensures),
+      total-next (start .args .t2) (loop .i) (loop .total) pension (loop .inv .2),
       omega arith,
     )
 
--- src/refusal.rt:230:9
-lower-of-requires-2 : tie.Need-lower-of-requires-2 Inv-loop μ-loop
-lower-of-requires-2 c κs = search needs
+-- after the loop the refusal and the total are those of all n
+refusal-whole : (c : tie.After-loop Inv-loop μ-loop)
+    → c .before .loop .refusal
+    ≡ lowest 3 (partly (c .before .before .before .before .before .before .args .head)
+    (take (c .before .before .before .before .before .before .args .n)
+    (c .before .before .before .before .before .before .args .t2)))
+refusal-whole c =
+    let loop = c .before .loop in
+    let a = c .before .before .before .before .before .before .args in
+    at-end (λ (k : ℕ). loop .refusal) (λ (k : ℕ). lowest 3 (partly (a .head) (take k (a .t2)))) (loop .i) (a .n) (loop .inv .0)
+    (c .loop-test .left) (loop .inv .1)
 
--- src/refusal.rt:230:9
+total-whole : (c : tie.After-loop Inv-loop μ-loop)
+    → c .before .loop .total
+    ≡ totalStated (take (c .before .before .before .before .before .before .args .n)
+    (c .before .before .before .before .before .before .args .t2))
+total-whole c =
+    let loop = c .before .loop in
+    let a = c .before .before .before .before .before .before .args in
+    at-end (λ (k : ℕ). loop .total) (λ (k : ℕ). totalStated (take k (a .t2))) (loop .i) (a .n) (loop .inv .0)
+    (c .loop-test .left) (loop .inv .2)
+
 returns : tie.Need-returns Inv-loop μ-loop
-returns c = let loop = c .before .before .before .loop in
-    let start = c .before .before .before .before .before .before .before .before in
-    let whole : loop .i ≡ start .args .n = le-antisymm (loop .inv .0) (c .before .before .loop-test .left) in
-    total-above (start .args .head) _ (loop .total) (loop .refusal) _ (rw whole at (loop .inv .2)) (rw whole at (loop .inv .1)) (c .before .if1 .taken) (c .lower-of2 .ensures)
+returns c =
+    let after = c .before .before in
+    total-above (after .before .before .before .before .before .before .args .head) _ (after .before .loop .total)
+    (after .before .loop .refusal) _ (total-whole after) (refusal-whole after) (c .before .if1 .taken) (c .lower-of2 .ensures)
 
--- src/refusal.rt:213:1
 returns-2 : tie.Need-returns-2 Inv-loop μ-loop
-returns-2 c = let loop = c .before .before .loop in
-    let start = c .before .before .before .before .before .before .before in
-    let whole : loop .i ≡ start .args .n = le-antisymm (loop .inv .0) (c .before .loop-test .left) in
-    total-within (start .args .head) _ (loop .total) (loop .refusal) (rw whole at (loop .inv .2)) (rw whole at (loop .inv .1)) (c .if1 .left)
+returns-2 c =
+    let after = c .before in
+    total-within (after .before .before .before .before .before .before .args .head) _ (after .before .loop .total)
+    (after .before .loop .refusal) (total-whole after) (refusal-whole after) (c .if1 .left)
 
 pub case-refusal-spec : {M : Type 1} → statement M
 case-refusal-spec =
@@ -104,18 +92,18 @@ case-refusal-spec =
     (tie.spec
     Inv-loop
     μ-loop
-    months-between-requires
+    (λ c κs. tt)
     head-refusal-requires
     loop-holds
-    mul-pension
-    array-copy-out-pension
+    (λ c. fits-below tt (mul-le-mul-right 28 (le-of-lt (place c))))
+    place
     pension-refusal-requires
-    lower-of-requires
-    cast-total
-    add-total
-    add-i
-    loop-less
+    (λ c κs. tt)
+    (search needs)
+    (search needs)
+    (λ c. fits-below tt (add-one-le (place (c .before .before .before .before))))
+    (λ c. fewer _ _ (c .before .before .before .before .loop-test .taken))
     loop-again
-    lower-of-requires-2
+    (λ c κs. tt)
     returns
     returns-2)

@@ -1,4 +1,6 @@
 -- `has_no_factor` is the definition `noFactor`, by what its calls promise.
+use mathlib.Core.Bool.{not, _&&_, _||_}
+use lib.Dec.{eqb}
 use borrow.Author.Needs.{needs}
 use Rattle.split.specs.Refusal.{noFactor}
 use Rattle.split.proofs.refusal.has_no_factor.Statement.{statement}
@@ -6,7 +8,9 @@ use Rattle.split.proofs.refusal.has_no_factor.Tie as tie
 
 returns : tie.Need-returns
 unfolding noFactor
-returns c = cc
+returns c =
+    let p = c .before .before .before .before .before .args .p in
+    λ i. (eqb (p .kind) 1 || eqb (p .kind) 2) && (eqb (p .terms .f1) 0 && not (c .is-within .ensures i))
 
 pub has-no-factor-spec : {M : Type 1} → statement M
 has-no-factor-spec = tie.close (tie.spec (search needs) returns)

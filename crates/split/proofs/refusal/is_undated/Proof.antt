@@ -1,4 +1,5 @@
 -- `is_undated` is the definition `undated`, by what its calls promise.
+use mathlib.Core.Bool.{not, _||_}
 use borrow.Author.Needs.{needs}
 use Rattle.split.specs.Refusal.{undated}
 use Rattle.split.proofs.refusal.is_undated.Statement.{statement}
@@ -6,7 +7,7 @@ use Rattle.split.proofs.refusal.is_undated.Tie as tie
 
 returns : tie.Need-returns
 unfolding undated
-returns c = cc
+returns c = λ i. not (c .before .in-calendar .ensures i) || not (c .in-calendar2 .ensures i)
 
 pub is-undated-spec : {M : Type 1} → statement M
 is-undated-spec = tie.close (tie.spec (search needs) (search needs) returns)

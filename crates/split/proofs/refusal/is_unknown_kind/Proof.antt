@@ -1,4 +1,5 @@
 -- `is_unknown_kind` is the definition `unknownKind`, by what its calls promise.
+use mathlib.Core.Bool.{not}
 use borrow.Author.Needs.{needs}
 use Rattle.split.specs.Refusal.{unknownKind}
 use Rattle.split.proofs.refusal.is_unknown_kind.Statement.{statement}
@@ -6,7 +7,7 @@ use Rattle.split.proofs.refusal.is_unknown_kind.Tie as tie
 
 returns : tie.Need-returns
 unfolding unknownKind
-returns c = cc
+returns c = λ i. not (c .is-within .ensures i)
 
 pub is-unknown-kind-spec : {M : Type 1} → statement M
 is-unknown-kind-spec = tie.close (tie.spec (search needs) (search needs) returns)

@@ -1,14 +1,18 @@
 -- `date` is the definition `dateAt`, part by part.
-use native.Mathlib.Omega.{arith}
-use native.Mathlib.Nat.{add-assoc}
 use borrow.Author.Needs.{needs}
-use Rattle.split.specs.Frame.{dateAt}
+use Rattle.split.proofs.FrameLaws.{date-read}
 use Rattle.split.proofs.frame.Cursor.date.Statement.{statement}
 use Rattle.split.proofs.frame.Cursor.date.Tie as tie
 
 returns : tie.Need-returns
-unfolding dateAt
-returns c = (cc (add-assoc (c .before .before .before .before .before .before .before .args .self .at) 4 2), omega arith)
+returns c =
+    let day = c .before in
+    let month = day .before .before in
+    let year = month .before .before in
+    let args = year .before .before .args in
+    date-read (args .line .now) (args .self .at) (year .short .result .next .at) (month .byte .result .next .at)
+    (day .byte2 .result .next .at) (year .short .result .value) (month .byte .result .value) (day .byte2 .result .value)
+    (year .short .ensures) (month .byte .ensures) (day .byte2 .ensures)
 
 pub date-spec : {M : Type 1} → statement M
 date-spec = tie.close (tie.spec (search needs) (search needs) (search needs) returns)

@@ -1,0 +1,61 @@
+-- `queue` stays inside the output: what waits is inside it after the first step, and the second adds a text only where it fits.
+use Prim.Native.Nat.{_≤_}
+use mathlib.Core.Path.{_≡_, ap}
+use mathlib.Core.Logic.{⊎-elim}
+use native.Mathlib.Omega.{arith}
+use lib.ListN.{length, length-take}
+use borrow.Author.Needs.{needs}
+use Rattle.quotes.specs.declared.Progress.{Progress}
+use Rattle.quotes.proofs.queue.Statement.{statement}
+use Rattle.quotes.proofs.queue.Tie as tie
+
+-- what waits and what is kept where the two ways of the first step meet
+settled : (c : tie.Joined1)
+    → (c .if1 .next .waiting ≤ length (c .before .before .before .args .output .now))
+    × (c .if1 .next .kept ≡ c .before .before .before .args .progress .kept)
+settled c =
+    ⊎-elim
+    (λ w. (omega (arith, ap (λ (p : Progress). p .waiting) (w .3)), ap (λ (p : Progress). p .kept) (w .3)))
+    (λ w. (omega (arith, ap (λ (p : Progress). p .waiting) (w .1)), ap (λ (p : Progress). p .kept) (w .1)))
+    (c .if1 .came)
+
+slice-aggregate-write-all : tie.Need-slice-aggregate-write-all
+slice-aggregate-write-all c = simp length-take (omega arith)
+
+sub-if2 : tie.Need-sub-if2
+sub-if2 c = omega (arith, settled c)
+
+add-end : tie.Need-add-end
+add-end c = omega (arith, settled (c .before))
+
+part-copy-end : tie.Need-part-copy-end
+part-copy-end c = omega (arith, settled (c .before))
+
+same-length : tie.Need-same-length
+same-length c = search needs
+
+returns : tie.Need-returns
+returns c =
+    let s = settled (c .before .before .before .before .before) in
+    (omega (arith, same-length c), s .1)
+
+returns-2 : tie.Need-returns-2
+returns-2 c = settled (c .before)
+
+pub queue-spec : {M : Type 1} → statement M
+queue-spec =
+    tie.close
+    (tie.spec
+    (search needs)
+    (search needs)
+    slice-aggregate-write-all
+    (search needs)
+    sub-if2
+    add-end
+    (search needs)
+    (search needs)
+    part-copy-end
+    (search needs)
+    same-length
+    returns
+    returns-2)

@@ -1,0 +1,33 @@
+-- `take_all` keeps the bounds and its buffers' lengths at each block, and ends because its turns do.
+use mathlib.Core.Path.{_≡_}
+use lib.ListN.{length}
+use borrow.Author.Needs.{needs}
+use Rattle.quotes.specs.Bounds.{InBounds}
+use Rattle.quotes.proofs.take_all.Statement.{statement}
+use Rattle.quotes.proofs.take_all.Tie as tie
+
+abbrev Inv-loop : tie.InvT-loop
+Inv-loop register₀ line₀ output₀ state₀ turns₀ register line output state turns = (length register ≡ length register₀) × (length line ≡ length line₀) × (length output ≡ length output₀) × InBounds state line output
+
+abbrev μ-loop : tie.MeasureT-loop
+μ-loop register₀ line₀ output₀ state₀ turns₀ register line output state turns = turns
+
+pub take-all-spec : {M : Type 1} → statement M
+take-all-spec =
+    tie.close
+    (tie.spec
+    Inv-loop
+    μ-loop
+    (search needs)
+    (search needs)
+    (search needs)
+    (search needs)
+    (search needs)
+    (search needs)
+    (search needs)
+    (search needs)
+    (search needs)
+    (search needs)
+    (search needs)
+    (search needs)
+    (search needs))

@@ -1,0 +1,12 @@
+pub mod AnyLaws
+pub mod HexLaws
+pub mod LineLaws
+pub mod CheckLaws
+pub mod FindLaws
+pub mod FileLaws
+pub mod LedgerLaws
+pub mod CheckingLaws
+pub mod FindingLaws
+pub mod ListClaims
+pub mod WritingLaws
+pub mod FilingLaws

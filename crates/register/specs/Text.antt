@@ -1,0 +1,34 @@
+-- A text of case lines and the claim of demand 3 as the contract of the call that files them all. Assumes nothing.
+use Prim.Native.Nat.{ℕ}
+use mathlib.Core.Bool.{Bool, true, false, cond}
+use mathlib.Core.List.{List, [], _∷_, _++_}
+use mathlib.Core.Path.{_≡_}
+use lib.Dec.{eqb}
+use Rattle.register.specs.declared.answers.Filed.{Filed}
+use Rattle.register.specs.File.{answersOf}
+use Rattle.register.specs.Ledger.{ListClaim}
+
+abbrev pub isEmpty : List ℕ → Bool
+isEmpty [] = true
+isEmpty (c ∷ cs) = false
+
+-- the lines of a text, of which the characters before it belong to the first: a newline ends a line, and the last may lack it
+unfoldable pub linesWith : List ℕ → List ℕ → List (List ℕ)
+linesWith before [] = cond (isEmpty before) [] (before ∷ [])
+linesWith before (c ∷ cs) = cond (eqb c 10) (before ∷ linesWith [] cs) (linesWith (before ++ (c ∷ [])) cs)
+
+-- the case lines of a text: LF ends a line, and the last may lack it
+unfoldable pub textLines : List ℕ → List (List ℕ)
+textLines text = linesWith [] text
+
+-- the refusals of answers over the bytes that were there, as far as there is room
+unfoldable pub told : List Filed → List ℕ → List ℕ
+told [] old = old
+told (a ∷ answers) [] = []
+told (a ∷ answers) (o ∷ old) = a .refusal ∷ told answers old
+
+-- What filing every line of a text promises: the whole claim of demand 3 about the list of its lines, of the very bytes
+-- and the used length that it leaves; and the refusals it gave.
+pub record FiledAll (s text old after refusals : List ℕ) (used : ℕ) : Type 0 where
+  pub claim : ListClaim s (textLines text) (answersOf s 0 (textLines text)) after used
+  pub given : refusals ≡ told (answersOf s 0 (textLines text)) old

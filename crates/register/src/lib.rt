@@ -1,0 +1,14 @@
+// The register: quotes filed as numbered lines in lent bytes, checked and found again.
+pub mod answers;
+mod checking;
+mod filing;
+mod finding;
+mod layout;
+
+pub use checking::check;
+pub use filing::file;
+pub use filing::file_all;
+pub use finding::find_member;
+pub use finding::find_member_refusal;
+pub use finding::find_number;
+pub use finding::find_number_refusal;
