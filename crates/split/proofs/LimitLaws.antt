@@ -9,6 +9,7 @@ use native.Mathlib.Omega.{arith}
 use lib.Dec.{ltb, eqb}
 use lib.ListN.{length, getD, take}
 use Rattle.calendar.specs.Calendar.{months, sixtiethBirthday}
+use Rattle.factors.specs.declared.money.LumpPence.{LumpPence}
 use Rattle.factors.specs.declared.money.YearlyPence.{YearlyPence}
 use Rattle.factors.specs.declared.effective.Factor.{Factor}
 use Rattle.factors.specs.declared.effective.FactorTerms.{FactorTerms}
@@ -71,14 +72,14 @@ unfolding factorOf
 factor-made age p t e x y = y ∙ ap (effectiveFactor (p .kind)) x
 
 -- a pension as the limits see it, of its parts
-pub benefit-made : (h : Head) (p : Pension) (age : ℕ) (pension : YearlyPence) (e : Factor) (limited : Bool) (cap : ℕ)
+pub benefit-made : (h : Head) (p : Pension) (age : ℕ) (pension : YearlyPence) (e : Factor) (limited : Bool) (cap : LumpPence)
     → age ≡ ageOf h → pension .0 ≡ workedPension h p → e ≡ factorOf age p → limited ≡ limitedLump p
-    → cap ≡ capOf limited (pension .0) e
-    → _≡_ {A = Benefit} (record { pension = pension; factor = e; cap = record { 0 = cap } }) (benefitOf h p)
+    → cap .0 ≡ capOf limited (pension .0) e
+    → _≡_ {A = Benefit} (record { pension = pension; factor = e; cap = cap }) (benefitOf h p)
 unfolding benefitOf
 benefit-made h p age pension e limited cap a x y l z =
     let factor : e ≡ factorOf (ageOf h) p = rw (← a) y in
-    let capped : cap ≡ capOf (limitedLump p) (workedPension h p) (factorOf (ageOf h) p) = rw (← l, ← x, ← factor) z in
+    let capped : cap .0 ≡ capOf (limitedLump p) (workedPension h p) (factorOf (ageOf h) p) = rw (← l, ← x, ← factor) z in
     λ i. record { pension = record { 0 = x i }; factor = factor i; cap = record { 0 = capped i } }
 
 -- one more pension of the total

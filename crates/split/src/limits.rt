@@ -63,23 +63,23 @@ fn is_limited(p: Pension) -> bool
 }
 
 // A quarter of the pension, as a lump.
-fn quarter_lump(pension: u32, e: Factor) -> u32
-    requires { ⌜ (pension ≤ 50000000) × FactorRange e ⌝ }
-    ensures { λ r. ⌜ (r ≡ quarterLump pension e) × (r ≤ 1000000000) ⌝ }
+fn quarter_lump(pension: YearlyPence, e: Factor) -> LumpPence
+    requires { ⌜ (pension .0 ≤ 50000000) × FactorRange e ⌝ }
+    ensures { λ r. ⌜ (r .0 ≡ quarterLump (pension .0) e) × (r .0 ≤ 1000000000) ⌝ }
 {
-    (pension as u64 * e.top / (4 * e.bottom)) as u32
+    LumpPence((pension.0 as u64 * e.top / (4 * e.bottom)) as u32)
 }
 
 // The cap of a pension.
-fn cap_of(limited: bool, pension: u32, e: Factor) -> u32
-    requires { ⌜ (pension ≤ 50000000) × FactorRange e ⌝ }
-    ensures { λ r. ⌜ r ≡ capOf limited pension e ⌝ }
+fn cap_of(limited: bool, pension: YearlyPence, e: Factor) -> LumpPence
+    requires { ⌜ (pension .0 ≤ 50000000) × FactorRange e ⌝ }
+    ensures { λ r. ⌜ r .0 ≡ capOf limited (pension .0) e ⌝ }
 {
     let quarter = quarter_lump(pension, e);
     if limited {
-        let most = 9 * pension / 4;
-        if most < quarter {
-            return most;
+        let most = 9 * pension.0 / 4;
+        if most < quarter.0 {
+            return LumpPence(most);
         }
     }
     quarter
@@ -93,11 +93,11 @@ fn benefit_of(head: Head, age: u32, p: Pension) -> Benefit
     let given = p.terms;
     let terms = worked_terms(age, given);
     let factor = factors::effective::effective_factor(p.kind, terms);
-    let cap = cap_of(is_limited(p), pension.0, factor);
+    let cap = cap_of(is_limited(p), pension, factor);
     Benefit {
         pension,
         factor,
-        cap: LumpPence(cap),
+        cap,
     }
 }
 

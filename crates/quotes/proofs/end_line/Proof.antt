@@ -40,20 +40,6 @@ part-say-end c = granted (c .before) .1
 pub end-line-spec : {M : Type 1} → statement M
 end-line-spec =
     tie.close
-    (tie.spec
-    slice-aggregate-file
-    (search needs)
-    sub-say
-    part-say-start
-    part-say-end
-    (search needs)
-    (search needs)
-    (search needs)
-    (search needs)
-    (search needs)
-    (search needs)
-    (search needs)
-    (search needs)
-    (search needs)
-    (search needs)
-    (search needs))
+    (tie.spec slice-aggregate-file (search needs) sub-say part-say-start part-say-end (search needs) (search needs)
+    (search needs) (search needs) (search needs) (search needs) (search needs) (search needs) (search needs)
+    (search needs) (search needs))

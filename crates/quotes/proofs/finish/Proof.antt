@@ -43,12 +43,5 @@ same-length-2 c = settled (c .before .before) .1
 pub finish-spec : {M : Type 1} → statement M
 finish-spec =
     tie.close
-    (tie.spec
-    (search needs)
-    (search needs)
-    slice-reshare-prefix-write-all
-    slice-aggregate-write-all
-    (search needs)
-    same-length
-    same-length-2
-    (search needs))
+    (tie.spec (search needs) (search needs) slice-reshare-prefix-write-all slice-aggregate-write-all (search needs)
+    same-length same-length-2 (search needs))

@@ -45,17 +45,5 @@ returns-2 c = settled (c .before)
 pub queue-spec : {M : Type 1} → statement M
 queue-spec =
     tie.close
-    (tie.spec
-    (search needs)
-    (search needs)
-    slice-aggregate-write-all
-    (search needs)
-    sub-if2
-    add-end
-    (search needs)
-    (search needs)
-    part-copy-end
-    (search needs)
-    same-length
-    returns
-    returns-2)
+    (tie.spec (search needs) (search needs) slice-aggregate-write-all (search needs) sub-if2 add-end (search needs)
+    (search needs) part-copy-end (search needs) same-length returns returns-2)

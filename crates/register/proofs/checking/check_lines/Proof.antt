@@ -102,27 +102,6 @@ returns-3 c =
 pub check-lines-spec : {M : Type 1} → statement M
 check-lines-spec =
     tie.close
-    (tie.spec
-    Inv-loop
-    μ-loop
-    Inv-lines
-    μ-lines
-    lines-holds
-    (search needs)
-    loop-holds
-    (search needs)
-    add-is-bad
-    shared-slice-read-is-bad
-    (search needs)
-    add-t15
-    (search needs)
-    (search needs)
-    loop-again
-    (search needs)
-    (search needs)
-    (search needs)
-    (search needs)
-    lines-again
-    returns
-    returns-2
-    returns-3)
+    (tie.spec Inv-loop μ-loop Inv-lines μ-lines lines-holds (search needs) loop-holds (search needs) add-is-bad
+    shared-slice-read-is-bad (search needs) add-t15 (search needs) (search needs) loop-again (search needs)
+    (search needs) (search needs) (search needs) lines-again returns returns-2 returns-3)

@@ -28,14 +28,5 @@ returns-3 c = c .before .before .file-sound .ensures
 pub file-spec : {M : Type 1} → statement M
 file-spec =
     tie.close
-    (tie.spec
-    (search needs)
-    (search needs)
-    (search needs)
-    returns
-    (search needs)
-    returns-2
-    next-number-requires
-    file-sound-requires
-    (search needs)
-    returns-3)
+    (tie.spec (search needs) (search needs) (search needs) returns (search needs) returns-2 next-number-requires
+    file-sound-requires (search needs) returns-3)

@@ -54,21 +54,6 @@ returns c = passed-all (c .before .loop .inv .2) (c .loop-test .left)
 pub file-all-spec : {M : Type 1} → statement M
 file-all-spec =
     tie.close
-    (tie.spec
-    Inv-loop
-    μ-loop
-    loop-holds
-    (search needs)
-    (search needs)
-    (search needs)
-    (search needs)
-    file-sound-requires
-    (search needs)
-    (search needs)
-    add-next
-    (search needs)
-    (search needs)
-    loop-again
-    (search needs)
-    same-length-2
-    returns)
+    (tie.spec Inv-loop μ-loop loop-holds (search needs) (search needs) (search needs) (search needs)
+    file-sound-requires (search needs) (search needs) add-next (search needs) (search needs) loop-again
+    (search needs) same-length-2 returns)

@@ -42,17 +42,5 @@ returns-4 c =
 pub file-sound-spec : {M : Type 1} → statement M
 file-sound-spec =
     tie.close
-    (tie.spec
-    (search needs)
-    returns
-    (search needs)
-    returns-2
-    returns-3
-    (search needs)
-    (search needs)
-    (search needs)
-    (search needs)
-    cast-write-line
-    write-line-requires
-    (search needs)
-    returns-4)
+    (tie.spec (search needs) returns (search needs) returns-2 returns-3 (search needs) (search needs) (search needs)
+    (search needs) cast-write-line write-line-requires (search needs) returns-4)

@@ -35,20 +35,6 @@ returns-3 c =
 pub found-line-spec : {M : Type 1} → statement M
 found-line-spec =
     tie.close
-    (tie.spec
-    (search needs)
-    (search needs)
-    (search needs)
-    (search needs)
-    returns
-    last-with-requires
-    (search needs)
-    (search needs)
-    (search needs)
-    returns-2
-    (search needs)
-    (search needs)
-    (search needs)
-    (search needs)
-    part-result-end-3
-    returns-3)
+    (tie.spec (search needs) (search needs) (search needs) (search needs) returns last-with-requires (search needs)
+    (search needs) (search needs) returns-2 (search needs) (search needs) (search needs) (search needs)
+    part-result-end-3 returns-3)

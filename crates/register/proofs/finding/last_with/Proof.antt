@@ -43,15 +43,5 @@ returns-2 c = same-none _ _ _ (c .before .loop .i) (c .before .loop .inv) (c .lo
 pub last-with-spec : {M : Type 1} → statement M
 last-with-spec =
     tie.close
-    (tie.spec
-    Inv-loop
-    μ-loop
-    loop-holds
-    (search needs)
-    mul-number-at
-    add-number-at
-    (search needs)
-    returns
-    (search needs)
-    loop-again
-    returns-2)
+    (tie.spec Inv-loop μ-loop loop-holds (search needs) mul-number-at add-number-at (search needs) returns
+    (search needs) loop-again returns-2)

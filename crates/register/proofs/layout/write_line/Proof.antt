@@ -50,18 +50,5 @@ returns c =
 pub write-line-spec : {M : Type 1} → statement M
 write-line-spec =
     tie.close
-    (tie.spec
-    Inv-loop
-    μ-loop
-    (search needs)
-    loop-holds
-    (search needs)
-    (search needs)
-    (search needs)
-    write-field-requires
-    (search needs)
-    (search needs)
-    loop-again
-    slice-write-line
-    same-length
-    returns)
+    (tie.spec Inv-loop μ-loop (search needs) loop-holds (search needs) (search needs) (search needs)
+    write-field-requires (search needs) (search needs) loop-again slice-write-line same-length returns)

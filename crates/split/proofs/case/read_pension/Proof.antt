@@ -21,10 +21,4 @@ returns c =
 pub read-pension-spec : {M : Type 1} → statement M
 read-pension-spec =
     tie.close
-    (tie.spec
-    (search needs)
-    (search needs)
-    (search needs)
-    (search needs)
-    (search needs)
-    returns)
+    (tie.spec (search needs) (search needs) (search needs) (search needs) (search needs) returns)

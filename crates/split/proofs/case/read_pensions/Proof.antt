@@ -48,17 +48,10 @@ returns c =
 pub read-pensions-spec : {M : Type 1} → statement M
 read-pensions-spec =
     tie.close
-    (tie.spec
-    Inv-loop
-    μ-loop
-    (search needs)
-    loop-holds
+    (tie.spec Inv-loop μ-loop (search needs) loop-holds
     (λ c. fits-below tt (mul-le-mul-left 44 (le-of-lt (place c))))
     (λ c. fits-below tt (pension-start (c .before .loop .i) (place c)))
     (λ c κs. pension-start (c .before .loop .i) (place c))
-    (λ c. fits-below tt (mul-le-mul-right 28 (le-of-lt (place (c .before)))))
-    (λ c. place (c .before))
-    (λ c. fits-below tt (add-one-le (place (c .before))))
-    (λ c. fewer _ _ (c .before .loop-test .taken))
-    loop-again
+    (λ c. fits-below tt (mul-le-mul-right 28 (le-of-lt (place (c .before))))) (λ c. place (c .before))
+    (λ c. fits-below tt (add-one-le (place (c .before)))) (λ c. fewer _ _ (c .before .loop-test .taken)) loop-again
     returns)

@@ -36,14 +36,5 @@ returns-2 c = sym (c .before .loop .inv .1 ∙ any-past bad _ _ (c .loop-test .l
 pub has-bad-character-spec : {M : Type 1} → statement M
 has-bad-character-spec =
     tie.close
-    (tie.spec
-    Inv-loop
-    μ-loop
-    loop-holds
-    (search needs)
-    (search needs)
-    returns
-    (search needs)
-    (search needs)
-    loop-again
-    returns-2)
+    (tie.spec Inv-loop μ-loop loop-holds (search needs) (search needs) returns (search needs) (search needs)
+    loop-again returns-2)

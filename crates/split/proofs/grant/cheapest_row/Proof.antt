@@ -83,21 +83,9 @@ returns c =
 pub cheapest-row-spec : {M : Type 1} → statement M
 cheapest-row-spec =
     tie.close
-    (tie.spec
-    Inv-loop
-    μ-loop
-    loop-holds
-    (λ c. c .loop-test .taken)
-    (λ c. fits-below tt (mul-le-mul-right 24 (le-of-lt (place c))))
-    place
-    (λ c. less (c .before .before .before))
-    loop-again
-    (λ c. fits-below tt (mul-le-mul-right 24 (le-of-lt (other c))))
-    other
-    (λ c. less (c .before .before .before .before .before .before .before))
-    loop-again-2
-    (λ c. less (c .before .before .before .before .before .before .before))
-    loop-again-3
-    (λ c. less (c .before .before))
-    loop-again-4
-    returns)
+    (tie.spec Inv-loop μ-loop loop-holds (λ c. c .loop-test .taken)
+    (λ c. fits-below tt (mul-le-mul-right 24 (le-of-lt (place c)))) place (λ c. less (c .before .before .before))
+    loop-again (λ c. fits-below tt (mul-le-mul-right 24 (le-of-lt (other c)))) other
+    (λ c. less (c .before .before .before .before .before .before .before)) loop-again-2
+    (λ c. less (c .before .before .before .before .before .before .before)) loop-again-3
+    (λ c. less (c .before .before)) loop-again-4 returns)

@@ -68,14 +68,5 @@ returns-2 c =
 pub granted-rows-spec : {M : Type 1} → statement M
 granted-rows-spec =
     tie.close
-    (tie.spec
-    Inv-loop
-    μ-loop
-    loop-holds
-    (λ c κs. c .before .before .pre .0)
-    returns
-    turn-requires
-    add-done
-    (λ c. fewer _ _ (c .before .before .before .before .loop-test .taken))
-    loop-again
-    returns-2)
+    (tie.spec Inv-loop μ-loop loop-holds (λ c κs. c .before .before .pre .0) returns turn-requires add-done
+    (λ c. fewer _ _ (c .before .before .before .before .loop-test .taken)) loop-again returns-2)

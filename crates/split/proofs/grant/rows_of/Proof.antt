@@ -52,16 +52,7 @@ returns c =
 pub rows-of-spec : {M : Type 1} → statement M
 rows-of-spec =
     tie.close
-    (tie.spec
-    Inv-loop
-    μ-loop
-    loop-holds
-    (λ c. fits-below tt (mul-le-mul-right 32 (le-of-lt (place c))))
-    place
-    row-of-requires
-    (λ c. fits-below tt (mul-le-mul-right 24 (le-of-lt (place (c .before .before)))))
-    (λ c. place (c .before .before))
-    (λ c. fits-below tt (add-one-le (place (c .before .before))))
-    (λ c. fewer _ _ (c .before .before .loop-test .taken))
-    loop-again
-    returns)
+    (tie.spec Inv-loop μ-loop loop-holds (λ c. fits-below tt (mul-le-mul-right 32 (le-of-lt (place c)))) place
+    row-of-requires (λ c. fits-below tt (mul-le-mul-right 24 (le-of-lt (place (c .before .before)))))
+    (λ c. place (c .before .before)) (λ c. fits-below tt (add-one-le (place (c .before .before))))
+    (λ c. fewer _ _ (c .before .before .loop-test .taken)) loop-again returns)

@@ -33,13 +33,6 @@ returns c =
 pub turn-spec : {M : Type 1} → statement M
 turn-spec =
     tie.close
-    (tie.spec
-    mul-row
-    (λ c. c .pre .0)
-    (λ c κs. c .before .pre .1)
-    (λ c. mul-row (c .before .before .before))
-    (λ c. c .before .before .before .pre .0)
-    (λ c. fits-below tt (le-of-lt (c .before .most-of .ok)))
-    mul-spent
-    (λ c. affordable (c .before .before))
-    returns)
+    (tie.spec mul-row (λ c. c .pre .0) (λ c κs. c .before .pre .1) (λ c. mul-row (c .before .before .before))
+    (λ c. c .before .before .before .pre .0) (λ c. fits-below tt (le-of-lt (c .before .most-of .ok))) mul-spent
+    (λ c. affordable (c .before .before)) returns)

@@ -27,10 +27,4 @@ returns c =
 pub benefit-of-spec : {M : Type 1} → statement M
 benefit-of-spec =
     tie.close
-    (tie.spec
-    (search needs)
-    (search needs)
-    (search needs)
-    (search needs)
-    cap-of-requires
-    returns)
+    (tie.spec (search needs) (search needs) (search needs) (search needs) cap-of-requires returns)

@@ -61,17 +61,8 @@ returns c =
 pub benefits-of-spec : {M : Type 1} → statement M
 benefits-of-spec =
     tie.close
-    (tie.spec
-    Inv-loop
-    μ-loop
-    (λ c κs. tt)
-    loop-holds
-    (λ c. fits-below tt (mul-le-mul-right 28 (le-of-lt (place c))))
-    place
-    benefit-of-requires
+    (tie.spec Inv-loop μ-loop (λ c κs. tt) loop-holds
+    (λ c. fits-below tt (mul-le-mul-right 28 (le-of-lt (place c)))) place benefit-of-requires
     (λ c. fits-below tt (mul-le-mul-right 32 (le-of-lt (place (c .before .before)))))
-    (λ c. place (c .before .before))
-    (λ c. fits-below tt (add-one-le (place (c .before .before))))
-    (λ c. fewer _ _ (c .before .before .loop-test .taken))
-    loop-again
-    returns)
+    (λ c. place (c .before .before)) (λ c. fits-below tt (add-one-le (place (c .before .before))))
+    (λ c. fewer _ _ (c .before .before .loop-test .taken)) loop-again returns)

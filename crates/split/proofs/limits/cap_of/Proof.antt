@@ -5,10 +5,14 @@ use Rattle.split.proofs.limits.cap_of.Statement.{statement}
 use Rattle.split.proofs.limits.cap_of.Tie as tie
 
 returns : tie.Need-returns
-returns c = cap-most _ _ _ _ (c .before .if1 .taken) (c .before .before .quarter-lump .ensures .0) (c .if2 .taken)
+returns c =
+    let t = c .before .before .before in
+    cap-most _ _ _ _ (t .if1 .taken) (t .before .quarter-lump .ensures .0) (c .if2 .taken)
 
 returns-2 : tie.Need-returns-2
-returns-2 c = cap-within _ _ _ _ (c .before .if1 .taken) (c .before .before .quarter-lump .ensures .0) (c .if2 .left)
+returns-2 c =
+    let t = c .before .before .before in
+    cap-within _ _ _ _ (t .if1 .taken) (t .before .quarter-lump .ensures .0) (c .if2 .left)
 
 returns-3 : tie.Need-returns-3
 returns-3 c = cap-unlimited _ _ _ _ (c .if1 .left) (c .before .quarter-lump .ensures .0)

@@ -60,16 +60,8 @@ returns c =
 pub priced-limit-spec : {M : Type 1} → statement M
 priced-limit-spec =
     tie.close
-    (tie.spec
-    Inv-loop
-    μ-loop
-    loop-holds
-    (λ c. fits-below tt (mul-le-mul-right 32 (le-of-lt (place c))))
-    place
-    (search needs)
-    add-total
-    (λ c. fits-below tt (add-one-le (place (c .before .before .before))))
+    (tie.spec Inv-loop μ-loop loop-holds (λ c. fits-below tt (mul-le-mul-right 32 (le-of-lt (place c)))) place
+    (search needs) add-total (λ c. fits-below tt (add-one-le (place (c .before .before .before))))
     (λ c. fewer _ _ (c .before .before .before .loop-test .taken))
-    (λ c. (add-one-le (c .before .before .before .loop-test .taken), next (c .before .before .before)))
-    mul-result
+    (λ c. (add-one-le (c .before .before .before .loop-test .taken), next (c .before .before .before))) mul-result
     returns)

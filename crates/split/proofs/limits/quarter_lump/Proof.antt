@@ -8,20 +8,22 @@ use Rattle.split.proofs.LimitLaws.{quarter-at-most}
 use Rattle.split.proofs.limits.quarter_lump.Statement.{statement}
 use Rattle.split.proofs.limits.quarter_lump.Tie as tie
 
-mul-result : tie.Need-mul-result
-mul-result c = omega (arith, mul-le-mul (c .before .pre .0) (c .before .pre .1 .top-high))
-
-cast-result : tie.Need-cast-result
-unfolding quarterLump
-cast-result c =
+mul-t4 : tie.Need-mul-t4
+mul-t4 c =
     let start = c .before .before in
-    omega (arith, quarter-at-most (start .args .pension) (start .args .e) (start .pre .1))
+    omega (arith, mul-le-mul (start .pre .0) (start .pre .1 .top-high))
+
+cast-t7 : tie.Need-cast-t7
+unfolding quarterLump
+cast-t7 c =
+    let start = c .before .before .before in
+    omega (arith, quarter-at-most (start .args .pension .0) (start .args .e) (start .pre .1))
 
 returns : tie.Need-returns
 unfolding quarterLump
 returns c =
-    let start = c .before .before in
-    (refl, omega (arith, quarter-at-most (start .args .pension) (start .args .e) (start .pre .1)))
+    let start = c .before .before .before in
+    (refl, omega (arith, quarter-at-most (start .args .pension .0) (start .args .e) (start .pre .1)))
 
 pub quarter-lump-spec : {M : Type 1} → statement M
-quarter-lump-spec = tie.close (tie.spec mul-result (search needs) (search needs) cast-result returns)
+quarter-lump-spec = tie.close (tie.spec (search needs) mul-t4 (search needs) (search needs) cast-t7 returns)

@@ -66,21 +66,12 @@ returns c =
 pub shares-of-spec : {M : Type 1} → statement M
 shares-of-spec =
     tie.close
-    (tie.spec
-    Inv-loop
-    μ-loop
-    (λ c κs. tt)
-    loop-holds
-    (λ c. fits-below tt (mul-le-mul-right 28 (le-of-lt (place c))))
-    place
-    (λ c. fits-below tt (mul-le-mul-right 32 (le-of-lt (place (c .before)))))
-    (λ c. place (c .before))
+    (tie.spec Inv-loop μ-loop (λ c κs. tt) loop-holds
+    (λ c. fits-below tt (mul-le-mul-right 28 (le-of-lt (place c)))) place
+    (λ c. fits-below tt (mul-le-mul-right 32 (le-of-lt (place (c .before))))) (λ c. place (c .before))
     (λ c. fits-below tt (mul-le-mul-right 24 (le-of-lt (place (c .before .before)))))
-    (λ c. place (c .before .before))
-    share-of-requires
+    (λ c. place (c .before .before)) share-of-requires
     (λ c. fits-below tt (mul-le-mul-right 12 (le-of-lt (place (c .before .before .before .before .before)))))
     (λ c. place (c .before .before .before .before .before))
     (λ c. fits-below tt (add-one-le (place (c .before .before .before .before .before))))
-    (λ c. fewer _ _ (c .before .before .before .before .before .loop-test .taken))
-    loop-again
-    returns)
+    (λ c. fewer _ _ (c .before .before .before .before .before .loop-test .taken)) loop-again returns)

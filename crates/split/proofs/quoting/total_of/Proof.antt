@@ -57,14 +57,6 @@ returns c =
 pub total-of-spec : {M : Type 1} → statement M
 total-of-spec =
     tie.close
-    (tie.spec
-    Inv-loop
-    μ-loop
-    loop-holds
-    (λ c. fits-below tt (mul-le-mul-right 24 (le-of-lt (place c))))
-    place
-    add-sum
-    (λ c. fits-below tt (add-one-le (place (c .before .before .before))))
-    (λ c. fewer _ _ (c .before .before .before .loop-test .taken))
-    loop-again
-    returns)
+    (tie.spec Inv-loop μ-loop loop-holds (λ c. fits-below tt (mul-le-mul-right 24 (le-of-lt (place c)))) place
+    add-sum (λ c. fits-below tt (add-one-le (place (c .before .before .before))))
+    (λ c. fewer _ _ (c .before .before .before .loop-test .taken)) loop-again returns)

@@ -89,21 +89,8 @@ returns-2 c =
 pub case-refusal-spec : {M : Type 1} → statement M
 case-refusal-spec =
     tie.close
-    (tie.spec
-    Inv-loop
-    μ-loop
-    (λ c κs. tt)
-    head-refusal-requires
-    loop-holds
-    (λ c. fits-below tt (mul-le-mul-right 28 (le-of-lt (place c))))
-    place
-    pension-refusal-requires
-    (λ c κs. tt)
-    (search needs)
-    (search needs)
-    (λ c. fits-below tt (add-one-le (place (c .before .before .before .before))))
-    (λ c. fewer _ _ (c .before .before .before .before .loop-test .taken))
-    loop-again
-    (λ c κs. tt)
-    returns
+    (tie.spec Inv-loop μ-loop (λ c κs. tt) head-refusal-requires loop-holds
+    (λ c. fits-below tt (mul-le-mul-right 28 (le-of-lt (place c)))) place pension-refusal-requires (λ c κs. tt)
+    (search needs) (search needs) (λ c. fits-below tt (add-one-le (place (c .before .before .before .before))))
+    (λ c. fewer _ _ (c .before .before .before .before .loop-test .taken)) loop-again (λ c κs. tt) returns
     returns-2)

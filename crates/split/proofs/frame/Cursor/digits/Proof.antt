@@ -38,16 +38,5 @@ returns c = (simp (c .before .loop .inv .1, le-antisymm (c .before .loop .inv .0
 pub digits-spec : {M : Type 1} → statement M
 digits-spec =
     tie.close
-    (tie.spec
-    Inv-loop
-    μ-loop
-    loop-holds
-    mul-value
-    (search needs)
-    (search needs)
-    add-value
-    (search needs)
-    (search needs)
-    loop-again
-    (search needs)
-    returns)
+    (tie.spec Inv-loop μ-loop loop-holds mul-value (search needs) (search needs) add-value (search needs)
+    (search needs) loop-again (search needs) returns)
