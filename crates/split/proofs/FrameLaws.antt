@@ -1,13 +1,19 @@
--- Laws of fields: a digit is below 16, a number of n digits below 16 to the n, and a date is read part by part. Assumes nothing.
+-- Laws of fields: a digit is below 16, a number of n digits below 16 to the n and read a digit at a time, a digit's value is
+-- arithmetic of its character, and a date is read part by part. Assumes nothing.
 use mathlib.Core.Path.{_≡_, refl}
-use Prim.Native.Nat.{ℕ, zero, suc, _+_, _*_, _^_, _<_, _≤_}
+use mathlib.Core.Bool.{false, _||_}
+use Prim.Native.Nat.{ℕ, zero, suc, _+_, _*_, _/_, _%_, _^_, _<_, _≤_}
 use native.Mathlib.Nat.{add-assoc, pow-suc, pow-le-pow-right, lt-of-lt-of-le}
 use native.Mathlib.Numerals.{add-one}
 use native.Mathlib.Omega.{arith}
 use mathlib.Core.List.{List}
-use lib.ListN.{length, List·getD-eq-default}
+use lib.Dec.{eqb}
+use lib.ListN.{length, getD, List·getD-eq-default}
+use borrow.Author.Tests.{eqb-true}
 use Rattle.calendar.specs.Calendar.{date}
-use Rattle.split.specs.Frame.{digitAt, numberAt, dateAt, hexValue}
+use Rattle.factors.proofs.Table.{below-at}
+use Rattle.split.specs.Frame.{badCharacter, digitAt, numberAt, dateAt, hexValue}
+use Rattle.split.proofs.ListLaws.{any-none}
 
 pub digit-below : (s : List ℕ) (at : ℕ) → digitAt s at < 16
 unfolding digitAt
@@ -18,15 +24,42 @@ unfolding numberAt
 number-below s at zero = omega arith
 number-below s at (suc n) = rw pow-suc (omega (arith, number-below s at n, digit-below s (at + n)))
 
--- before its eighth digit a number has room for one more in 32 bits
-pub number-room : (s : List ℕ) (at n : ℕ) → n < 8 → numberAt s at n < 268435456
-number-room s at n h =
-    lt-of-lt-of-le (number-below s at n) (pow-le-pow-right {n = 16} (omega arith) {j = 7} (omega arith))
+-- of n digits i are read, and make the value
+pub record Read (s : List ℕ) (at n value i : ℕ) : Type 0 where
+  pub within : i ≤ n
+  pub number : value ≡ numberAt s at i
 
--- one more digit at the end
-pub number-more : (s : List ℕ) (at n : ℕ) → numberAt s at n * 16 + digitAt s (at + n) ≡ numberAt s at (n + 1)
+pub read-none : {s : List ℕ} {at n : ℕ} → Read s at n 0 0
 unfolding numberAt
-number-more s at n = rw add-one
+read-none = record { within = omega arith; number = refl }
+
+-- before the eighth there is room for one more in 32 bits
+pub read-room : {s : List ℕ} {at n value i : ℕ} → Read s at n value i → i < n → n ≤ 8 → value < 268435456
+read-room {s} {at} {i = i} read h eight =
+    rw (read .number)
+    (lt-of-lt-of-le (number-below s at i) (pow-le-pow-right {n = 16} (omega arith) {j = 7} (omega arith)))
+
+-- one more digit
+pub read-more : {s : List ℕ} {at n value i d : ℕ} → Read s at n value i → i < n → d ≡ digitAt s (at + i)
+    → Read s at n (value * 16 + d) (i + 1)
+unfolding numberAt
+read-more read h e = record { within = omega arith; number = rw (add-one, read .number, e) }
+
+pub read-all : {s : List ℕ} {at n value i : ℕ} → Read s at n value i → n ≤ i → value ≡ numberAt s at n
+read-all {n = n} {i = i} read h = let all : i ≡ n = omega arith in rw all at (read .number)
+
+-- a digit's value by arithmetic: antt computes it at each of the 256 characters
+pub digit-worth : (c : ℕ) → c < 256 → eqb (hexValue c) 16 ≡ false → c % 16 + 9 * (c / 64) ≡ hexValue c % 16
+unfolding hexValue
+digit-worth c h e =
+    eqb-true _ _
+    (rw e at
+    (below-at 256 (λ (k : ℕ). eqb (hexValue k) 16 || eqb (k % 16 + 9 * (k / 64)) (hexValue k % 16)) refl c h))
+
+-- in a line of digits each character is one
+pub digit-known : (s : List ℕ) (at : ℕ) → badCharacter s ≡ false → at < length s → eqb (hexValue (getD s at 0)) 16 ≡ false
+unfolding badCharacter
+digit-known s at e h = any-none (λ (c : ℕ). eqb (hexValue c) 16) s 0 e at h
 
 -- past the end there are only zeros
 pub number-past : (s : List ℕ) (at n : ℕ) → length s ≤ at → numberAt s at n ≡ 0

@@ -16,14 +16,6 @@ pub any-next : {A : Type 0} (f : A → Bool) (l : List A) (i : ℕ) (d : A) → 
     → any f (drop i l) ≡ (f (getD l i d) || any f (drop (i + 1) l))
 any-next f l i d h = rw (add-one, drop-cons l i d h)
 
-pub any-hit : {A : Type 0} (f : A → Bool) (l : List A) (i : ℕ) (d : A) → i < length l → f (getD l i d) ≡ true
-    → any f (drop i l) ≡ true
-any-hit f l i d h t = any-next f l i d h ∙ simp t
-
-pub any-miss : {A : Type 0} (f : A → Bool) (l : List A) (i : ℕ) (d : A) → i < length l → f (getD l i d) ≡ false
-    → any f (drop i l) ≡ any f (drop (i + 1) l)
-any-miss f l i d h t = any-next f l i d h ∙ simp t
-
 -- nothing is left past the end
 pub any-past : {A : Type 0} (f : A → Bool) (l : List A) (i : ℕ) → length l ≤ i → any f (drop i l) ≡ false
 any-past f l i h = rw (drop-of-length-le l h)
@@ -32,6 +24,16 @@ any-past f l i h = rw (drop-of-length-le l h)
 pub any-snoc : {A : Type 0} (f : A → Bool) (l : List A) (x : A) → any f (l ++ (x ∷ [])) ≡ (any f l || f x)
 any-snoc f [] x = or-false (f x)
 any-snoc f (y ∷ l) x = ap (λ (b : Bool). f y || b) (any-snoc f l x) ∙ sym (or-assoc (f y) (any f l) (f x))
+
+-- a flag and the rest from a place on answer for the whole: with one more element, and past the end the flag alone
+pub flag-more : {A : Type 0} (f : A → Bool) (l : List A) (i : ℕ) (d : A) (whole flag t : Bool) → i < length l → t ≡ f (getD l i d)
+    → whole ≡ (flag || any f (drop i l)) → whole ≡ ((flag || t) || any f (drop (i + 1) l))
+flag-more f l i d whole flag t h e rest = rest ∙ rw (e, or-assoc) (ap (λ (b : Bool). flag || b) (any-next f l i d h))
+
+pub flag-all : {A : Type 0} (f : A → Bool) (l : List A) (i : ℕ) (whole flag : Bool) → length l ≤ i
+    → whole ≡ (flag || any f (drop i l)) → flag ≡ whole
+flag-all f l i whole flag h rest =
+    sym (rest ∙ ap (λ (b : Bool). flag || b) (any-past f l i h) ∙ or-false flag)
 
 -- both parts of an alternative that fails
 pub or-left : (a b : Bool) → (a || b) ≡ false → a ≡ false

@@ -32,7 +32,7 @@ use Rattle.split.proofs.AcceptedLaws.{accepted-tops, accepted-caps, acc
 use Rattle.split.proofs.ShareLaws.{shares-counted}
 
 -- a line of a listed length that agrees with its count has at most four pensions
-count-listed : (characters n : ℕ) → badLength characters n ≡ false → n ≤ 4
+pub count-listed : (characters n : ℕ) → badLength characters n ≡ false → n ≤ 4
 unfolding badLength
 count-listed characters n e =
     let counted = eqb-true characters (26 + 44 * n) (not-false _ (or-right (not listed) _ e)) in
@@ -218,44 +218,28 @@ quote-best s e =
     by-refusal (λ q. BestLumps s (lumpsIn (q .shares)) (q .total .0)) s (λ z. granted-best s (granted s z))
     (λ ne. absurd (ne e))
 
--- the conditions on the frame, and then those on the case
-frame-first : (a b : Bool) (bs : List Bool) → (lowest 1 (a ∷ b ∷ []) ≡ 0 → ⊥) → lowest 1 (a ∷ b ∷ bs) ≡ lowest 1 (a ∷ b ∷ [])
-frame-first true b bs h = refl
-frame-first false true bs h = refl
-frame-first false false bs h = absurd (h refl)
+-- a line with a bad character is refused
+pub quote-misspelt : (s : List ℕ) (q : Quote) → badCharacter s ≡ true → q ≡ refusedQuote 1 → q ≡ quoteOf s
+unfolding refusalOf
+quote-misspelt s q bad made = made ∙ refused-as s 1 (λ e. omega arith) (simp (refusalOf, bad))
 
-frame-then : (a b : Bool) (bs : List Bool) → _≡_ {A = ℕ} (lowest 1 (a ∷ b ∷ [])) 0 → lowest 1 (a ∷ b ∷ bs) ≡ lowest 3 bs
-frame-then true b bs e = absurd (omega arith)
-frame-then false true bs e = absurd (omega arith)
-frame-then false false bs e = refl
-
--- what the code has read of a line, and the quote that it makes of it
-module _ (s : List ℕ) (h : Head) (framed : ℕ) (read : h ≡ headOf s)
-    (frame : framed ≡ lowest 1 (badCharacter s ∷ badLength (length s) (h .count) ∷ [])) where
-  frame-of : framed ≡ lowest 1 (badCharacter s ∷ badLength (length s) (headOf s .count) ∷ [])
-  frame-of = frame ∙ ap (λ (k : Head). lowest 1 (badCharacter s ∷ badLength (length s) (k .count) ∷ [])) read
-
-  -- refused by its frame
-  pub quote-framed : (q : Quote) → (framed ≡ 0 → ⊥) → q ≡ refusedQuote framed → q ≡ quoteOf s
+-- what the code has read of a line of digits, and the quote that it makes of it
+module _ (s : List ℕ) (h : Head) (spelt : badCharacter s ≡ false) (read : h ≡ headOf s) where
+  -- refused by its length
+  pub quote-mismeasured : (q : Quote) → badLength (length s) (h .count) ≡ true → q ≡ refusedQuote 2 → q ≡ quoteOf s
   unfolding refusalOf
-  quote-framed q no-frame made =
-      made ∙ refused-as s framed no-frame
-      (frame-first (badCharacter s) (badLength (length s) (headOf s .count)) (conditions (headOf s) (pensionsOf s)) (λ e. no-frame (frame-of ∙ e)) ∙ sym frame-of)
+  quote-mismeasured q bad made =
+      made ∙ refused-as s 2 (λ e. omega arith) (simp (refusalOf, spelt, rw read at bad))
 
-  -- a good frame has at most four pensions
-  pub quote-few : framed ≡ 0 → h .count ≤ 4
-  quote-few whole =
-      let later = lowest-none 0 (badCharacter s) (badLength (length s) (h .count) ∷ []) (sym frame ∙ whole) .1 in
-      count-listed (length s) (h .count) (lowest-none 1 (badLength (length s) (h .count)) [] later .0)
-
-  module _ (whole : framed ≡ 0) (ps : List Pension) (taken : take (h .count) ps ≡ pensionsAt s (h .count)) (refused : ℕ)
+  module _ (measured : badLength (length s) (h .count) ≡ false) (ps : List Pension)
+      (taken : take (h .count) ps ≡ pensionsAt s (h .count)) (refused : ℕ)
       (case : refused ≡ lowest 3 (conditions h (take (h .count) ps))) where
     case-of : refusalOf s ≡ refused
     unfolding refusalOf
     case-of =
-        frame-then (badCharacter s) (badLength (length s) (headOf s .count)) (conditions (headOf s) (pensionsOf s)) (sym frame-of ∙ whole)
-        ∙ sym (case ∙ ap (λ (l : List Pension). lowest 3 (conditions h l)) taken
-        ∙ ap (λ (k : Head). lowest 3 (conditions k (pensionsAt s (k .count)))) read)
+        simp (refusalOf, spelt, rw read at measured)
+        (sym (case ∙ ap (λ (l : List Pension). lowest 3 (conditions h l)) taken
+        ∙ ap (λ (k : Head). lowest 3 (conditions k (pensionsAt s (k .count)))) read))
 
     -- refused by its case
     pub quote-cased : (q : Quote) → (refused ≡ 0 → ⊥) → q ≡ refusedQuote refused → q ≡ quoteOf s

@@ -4,8 +4,10 @@ use calendar::Date;
 use factors::effective::FactorTerms;
 use factors::money::YearlyPence;
 ghost use mathlib.Core.Path.{_≡_};
+ghost use mathlib.Core.Bool.{false};
 ghost use Prim.Native.Nat.{_+_, _*_, _≤_};
 ghost use lib.ListN.{length, take};
+ghost use Rattle.split.specs.Frame.{badCharacter};
 ghost use Rattle.split.specs.Case.{headOf, serviceAt, termsAt, pensionAt, pensionsAt};
 
 pub struct Head {
@@ -34,6 +36,7 @@ struct ServiceField {
 }
 
 pub fn read_head(line: &[u8]) -> Head
+    requires { ⌜ badCharacter (now line) ≡ false ⌝ }
     ensures { λ r. ⌜ r ≡ headOf (now (line .entry)) ⌝ }
 {
     let start = Cursor { at: 0 };
@@ -55,7 +58,7 @@ pub fn read_head(line: &[u8]) -> Head
 }
 
 fn read_service(line: &[u8], at: Cursor) -> ServiceField
-    requires { ⌜ at .at ≤ 900 ⌝ }
+    requires { ⌜ (at .at ≤ 900) × (badCharacter (now line) ≡ false) ⌝ }
     ensures { λ r. ⌜ (r .value ≡ serviceAt (now (line .entry)) (at .at)) × (r .next .at ≡ at .at + 16) ⌝ }
 {
     let start = at.date(line);
@@ -74,7 +77,7 @@ fn read_service(line: &[u8], at: Cursor) -> ServiceField
 }
 
 fn read_terms(line: &[u8], at: Cursor) -> FactorTerms
-    requires { ⌜ at .at ≤ 900 ⌝ }
+    requires { ⌜ (at .at ≤ 900) × (badCharacter (now line) ≡ false) ⌝ }
     ensures { λ r. ⌜ r ≡ termsAt (now (line .entry)) (at .at) ⌝ }
 {
     let f1 = at.short(line);
@@ -93,7 +96,7 @@ fn read_terms(line: &[u8], at: Cursor) -> FactorTerms
 }
 
 fn read_pension(line: &[u8], at: Cursor) -> Pension
-    requires { ⌜ at .at ≤ 800 ⌝ }
+    requires { ⌜ (at .at ≤ 800) × (badCharacter (now line) ≡ false) ⌝ }
     ensures { λ r. ⌜ r ≡ pensionAt (now (line .entry)) (at .at) ⌝ }
 {
     let kind = at.byte(line);
@@ -115,13 +118,38 @@ fn read_pension(line: &[u8], at: Cursor) -> Pension
     }
 }
 
+fn no_date() -> Date {
+    Date {
+        year: 0,
+        month: 0,
+        day: 0,
+    }
+}
+
+fn no_pension() -> Pension {
+    Pension {
+        kind: 0,
+        stated: YearlyPence(0),
+        service: Service {
+            start: no_date(),
+            end: no_date(),
+        },
+        lift: 0,
+        terms: FactorTerms {
+            f1: 0,
+            f2: 0,
+            f3: 0,
+            increase: 0,
+        },
+    }
+}
+
 // The first n pensions of a line, in as many places of the array.
 pub fn read_pensions(line: &[u8], n: usize) -> [Pension; 4]
-    requires { ⌜ n ≤ 4 ⌝ }
+    requires { ⌜ (n ≤ 4) × (badCharacter (now line) ≡ false) ⌝ }
     ensures { λ r. ⌜ (take n r ≡ pensionsAt (now (line .entry)) n) × (length r ≡ 4) ⌝ }
 {
-    let first = read_pension(line, Cursor { at: 26 });
-    let mut pensions = [first; 4];
+    let mut pensions = [no_pension(); 4];
     let mut i = 0;
     while i < n {
         let pension = read_pension(line, Cursor { at: 26 + 44 * i });

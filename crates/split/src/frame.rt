@@ -1,277 +1,62 @@
 // The frame reader: fields of uppercase hexadecimal digits, highest first, taken one after the other.
 use calendar::Date;
 ghost use mathlib.Core.Path.{_≡_};
-ghost use Prim.Native.Nat.{_+_, _^_, _≤_, _<_};
+ghost use mathlib.Core.Bool.{false};
+ghost use Prim.Native.Nat.{_+_, _%_, _^_, _≤_, _<_};
+ghost use lib.Dec.{eqb};
+ghost use lib.ListN.{length};
 ghost use Rattle.split.specs.Frame.{hexValue, digitAt, numberAt, dateAt, badCharacter};
 
-// The value of each character, and 16 for one that is no digit.
-const HEX_VALUES: [u8; 256] = [
-    16,
-    16,
-    16,
-    16,
-    16,
-    16,
-    16,
-    16,
-    16,
-    16,
-    16,
-    16,
-    16,
-    16,
-    16,
-    16,
-    16,
-    16,
-    16,
-    16,
-    16,
-    16,
-    16,
-    16,
-    16,
-    16,
-    16,
-    16,
-    16,
-    16,
-    16,
-    16,
-    16,
-    16,
-    16,
-    16,
-    16,
-    16,
-    16,
-    16,
-    16,
-    16,
-    16,
-    16,
-    16,
-    16,
-    16,
-    16,
-    0,
-    1,
-    2,
-    3,
-    4,
-    5,
-    6,
-    7,
-    8,
-    9,
-    16,
-    16,
-    16,
-    16,
-    16,
-    16,
-    16,
-    10,
-    11,
-    12,
-    13,
-    14,
-    15,
-    16,
-    16,
-    16,
-    16,
-    16,
-    16,
-    16,
-    16,
-    16,
-    16,
-    16,
-    16,
-    16,
-    16,
-    16,
-    16,
-    16,
-    16,
-    16,
-    16,
-    16,
-    16,
-    16,
-    16,
-    16,
-    16,
-    16,
-    16,
-    16,
-    16,
-    16,
-    16,
-    16,
-    16,
-    16,
-    16,
-    16,
-    16,
-    16,
-    16,
-    16,
-    16,
-    16,
-    16,
-    16,
-    16,
-    16,
-    16,
-    16,
-    16,
-    16,
-    16,
-    16,
-    16,
-    16,
-    16,
-    16,
-    16,
-    16,
-    16,
-    16,
-    16,
-    16,
-    16,
-    16,
-    16,
-    16,
-    16,
-    16,
-    16,
-    16,
-    16,
-    16,
-    16,
-    16,
-    16,
-    16,
-    16,
-    16,
-    16,
-    16,
-    16,
-    16,
-    16,
-    16,
-    16,
-    16,
-    16,
-    16,
-    16,
-    16,
-    16,
-    16,
-    16,
-    16,
-    16,
-    16,
-    16,
-    16,
-    16,
-    16,
-    16,
-    16,
-    16,
-    16,
-    16,
-    16,
-    16,
-    16,
-    16,
-    16,
-    16,
-    16,
-    16,
-    16,
-    16,
-    16,
-    16,
-    16,
-    16,
-    16,
-    16,
-    16,
-    16,
-    16,
-    16,
-    16,
-    16,
-    16,
-    16,
-    16,
-    16,
-    16,
-    16,
-    16,
-    16,
-    16,
-    16,
-    16,
-    16,
-    16,
-    16,
-    16,
-    16,
-    16,
-    16,
-    16,
-    16,
-    16,
-    16,
-    16,
-    16,
-    16,
-    16,
-    16,
-    16,
-    16,
-    16,
-    16,
-    16,
-    16,
-    16,
-    16,
-    16,
-    16,
-    16,
-    16,
-    16,
-    16,
-    16,
-    16,
-    16,
-    16,
-    16,
-    16,
-    16,
-    16,
-    16,
-    16,
-    16,
-    16,
-    16,
-    16,
-    16,
-    16,
-];
-
+// The value of a character: 0-9 and A-F, and 16 for any other.
 pub fn hex_value(character: u8) -> u8
     ensures { λ r. ⌜ r ≡ hexValue character ⌝ }
 {
-    let at = character as usize;
-    HEX_VALUES[at]
+    if (48 <= character) & (character <= 57) {
+        return character - 48;
+    }
+    if (65 <= character) & (character <= 70) {
+        return character - 55;
+    }
+    16
 }
 
-// The digit at a place; 0 past the end and where the character is no digit.
+// Whether some character of the line is no digit. It looks at them all, with no branch for each.
+pub fn has_bad_character(line: &[u8]) -> bool
+    ensures { λ r. ⌜ r ≡ badCharacter (now (line .entry)) ⌝ }
+{
+    let mut bad = false;
+    let mut i = 0;
+    while i < line.len() {
+        bad = bad | (hex_value(line[i]) == 16);
+        i += 1;
+    }
+    bad
+}
+
+// The value of a character that is known to be a digit.
+fn digit_value(character: u8) -> u32
+    requires { ⌜ eqb (hexValue character) 16 ≡ false ⌝ }
+    ensures { λ r. ⌜ r ≡ hexValue character % 16 ⌝ }
+{
+    let code = character as u32;
+    code % 16 + 9 * (code / 64)
+}
+
+// The number of this many digits within a line of digits.
+fn digits_within(line: &[u8], at: usize, count: usize) -> u32
+    requires { ⌜ (at + count ≤ length (now line)) × (count ≤ 8) × (badCharacter (now line) ≡ false) ⌝ }
+    ensures { λ r. ⌜ r ≡ numberAt (now (line .entry)) at count ⌝ }
+{
+    let mut value: u32 = 0;
+    let mut i = 0;
+    while i < count {
+        value = value * 16 + digit_value(line[at + i]);
+        i += 1;
+    }
+    value
+}
+
+// The digit at a place of any bytes; 0 past the end and where the character is no digit.
 fn digit_at(line: &[u8], at: usize) -> u32
     ensures { λ r. ⌜ (r ≡ digitAt (now (line .entry)) at) × (r < 16) ⌝ }
 {
@@ -281,18 +66,18 @@ fn digit_at(line: &[u8], at: usize) -> u32
     0
 }
 
-// Whether some character of the line is no digit.
-pub fn has_bad_character(line: &[u8]) -> bool
-    ensures { λ r. ⌜ r ≡ badCharacter (now (line .entry)) ⌝ }
+// The number of this many digits of any bytes, from any place on.
+fn digits_at(line: &[u8], at: usize, count: usize) -> u32
+    requires { ⌜ (at ≤ 2 ^ 63) × (count ≤ 8) ⌝ }
+    ensures { λ r. ⌜ r ≡ numberAt (now (line .entry)) at count ⌝ }
 {
+    let mut value: u32 = 0;
     let mut i = 0;
-    while i < line.len() {
-        if hex_value(line[i]) == 16 {
-            return true;
-        }
+    while i < count {
+        value = value * 16 + digit_at(line, at + i);
         i += 1;
     }
-    false
+    value
 }
 
 // A place in a line. Each method takes the next field and hands the cursor back moved on.
@@ -321,27 +106,28 @@ pub struct DateField {
 }
 
 impl Cursor {
-    // The number of this many digits.
+    // The number of this many digits of a line of digits.
     fn digits(self, line: &[u8], count: usize) -> NumberField
-        requires { ⌜ (self .at ≤ 2 ^ 63) × (count ≤ 8) ⌝ }
+        requires { ⌜ (self .at ≤ 2 ^ 63) × (count ≤ 8) × (badCharacter (now line) ≡ false) ⌝ }
         ensures { λ r. ⌜ (r .value ≡ numberAt (now (line .entry)) (self .at) count) × (r .next .at ≡ self .at + count) ⌝ }
     {
         let at = self.at;
-        let mut value: u32 = 0;
-        let mut i = 0;
-        while i < count {
-            value = value * 16 + digit_at(line, at + i);
-            i += 1;
+        let next = Cursor { at: at + count };
+        if at + count <= line.len() {
+            return NumberField {
+                value: digits_within(line, at, count),
+                next,
+            };
         }
         NumberField {
-            value,
-            next: Cursor { at: at + count },
+            value: digits_at(line, at, count),
+            next,
         }
     }
 
     // A number of one byte.
     pub fn byte(self, line: &[u8]) -> ByteField
-        requires { ⌜ self .at ≤ 1024 ⌝ }
+        requires { ⌜ (self .at ≤ 1024) × (badCharacter (now line) ≡ false) ⌝ }
         ensures { λ r. ⌜ (r .value ≡ numberAt (now (line .entry)) (self .at) 2) × (r .next .at ≡ self .at + 2) ⌝ }
     {
         let field = self.digits(line, 2);
@@ -354,7 +140,7 @@ impl Cursor {
 
     // A number of two bytes.
     pub fn short(self, line: &[u8]) -> ShortField
-        requires { ⌜ self .at ≤ 1024 ⌝ }
+        requires { ⌜ (self .at ≤ 1024) × (badCharacter (now line) ≡ false) ⌝ }
         ensures { λ r. ⌜ (r .value ≡ numberAt (now (line .entry)) (self .at) 4) × (r .next .at ≡ self .at + 4) ⌝ }
     {
         let field = self.digits(line, 4);
@@ -367,7 +153,7 @@ impl Cursor {
 
     // A number of four bytes.
     pub fn number(self, line: &[u8]) -> NumberField
-        requires { ⌜ self .at ≤ 2 ^ 63 ⌝ }
+        requires { ⌜ (self .at ≤ 1024) × (badCharacter (now line) ≡ false) ⌝ }
         ensures { λ r. ⌜ (r .value ≡ numberAt (now (line .entry)) (self .at) 8) × (r .next .at ≡ self .at + 8) ⌝ }
     {
         self.digits(line, 8)
@@ -375,7 +161,7 @@ impl Cursor {
 
     // A date: two bytes of year, one of month, one of day.
     pub fn date(self, line: &[u8]) -> DateField
-        requires { ⌜ self .at ≤ 1000 ⌝ }
+        requires { ⌜ (self .at ≤ 1000) × (badCharacter (now line) ≡ false) ⌝ }
         ensures { λ r. ⌜ (r .value ≡ dateAt (now (line .entry)) (self .at)) × (r .next .at ≡ self .at + 8) ⌝ }
     {
         let year = self.short(line);
@@ -400,9 +186,7 @@ pub fn number_at(line: &[u8], at: usize) -> u32
     ensures { λ r. ⌜ r ≡ numberAt (now (line .entry)) at 8 ⌝ }
 {
     if at < line.len() {
-        let cursor = Cursor { at };
-        let field = cursor.number(line);
-        return field.value;
+        return digits_at(line, at, 8);
     }
     0
 }

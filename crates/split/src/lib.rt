@@ -7,6 +7,7 @@ mod quoting;
 mod refusal;
 pub mod shares;
 
+pub use frame::has_bad_character;
 pub use frame::hex_value;
 pub use frame::number_at;
 use shares::Quote;
@@ -17,10 +18,12 @@ ghost use Rattle.split.specs.Quote.{quoteOf};
 pub fn quote(line: &[u8]) -> Quote
     ensures { λ r. ⌜ r ≡ quoteOf (now (line .entry)) ⌝ }
 {
+    if frame::has_bad_character(line) {
+        return quoting::refused_quote(1);
+    }
     let head = case::read_head(line);
-    let framed = refusal::frame_refusal(line, head.count);
-    if framed != 0 {
-        return quoting::refused_quote(framed);
+    if refusal::has_bad_length(line.len(), head.count) {
+        return quoting::refused_quote(2);
     }
     let n = head.count as usize;
     let pensions = case::read_pensions(line, n);

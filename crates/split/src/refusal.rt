@@ -1,15 +1,11 @@
-// Refusals 1 to 10: the lowest condition that holds of a line.
+// Refusals 2 to 10: the length of a line, and the lowest condition that holds of its case.
 use crate::case::Head;
 use crate::case::Pension;
-use crate::frame;
 use factors::effective::FactorTerms;
 ghost use mathlib.Core.Path.{_≡_};
-ghost use mathlib.Core.Bool.{_||_};
 ghost use mathlib.Core.List.{[], _∷_};
 ghost use Prim.Native.Nat.{_≤_, _<_};
-ghost use lib.ListN.{length, take};
-ghost use Rattle.split.specs.Case.{headOf};
-ghost use Rattle.split.specs.Frame.{badCharacter};
+ghost use lib.ListN.{take};
 ghost use Rattle.split.specs.Refusal.{ageOf, badLength, undatedHead, undated, disordered, badAge, unknownKind, listedF1, noIncrease, listedIncrease, unlisted, wrongAge, noFactor, unstated, conditions, lowest, within};
 ghost use Rattle.split.specs.Parts.{lower, headConditions, pensionConditions};
 
@@ -19,7 +15,7 @@ fn is_within(low: u32, high: u32, x: u32) -> bool
     (low <= x) & (x <= high)
 }
 
-fn has_bad_length(characters: usize, n: u8) -> bool
+pub fn has_bad_length(characters: usize, n: u8) -> bool
     ensures { λ r. ⌜ r ≡ badLength characters n ⌝ }
 {
     let wanted = 26 + 44 * (n as usize);
@@ -194,19 +190,6 @@ fn lower_of(a: u8, b: u8) -> u8
         return a;
     }
     if a <= b { a } else { b }
-}
-
-// Refusals 1 and 2: the characters, and how many there are.
-pub fn frame_refusal(line: &[u8], n: u8) -> u8
-    ensures { λ r. ⌜ r ≡ lowest 1 (badCharacter (now (line .entry)) ∷ badLength (length (now (line .entry))) n ∷ []) ⌝ }
-{
-    if frame::has_bad_character(line) {
-        return 1;
-    }
-    if has_bad_length(line.len(), n) {
-        return 2;
-    }
-    0
 }
 
 // Refusals 3 to 10 of a case with n pensions.

@@ -1,48 +1,58 @@
--- `quote` is the definition `quoteOf`: the frame first, then the case, then the grant.
+-- `quote` is the definition `quoteOf`: the characters first, then the length, then the case, then the grant.
+use Prim.Native.Nat.{_≤_}
 use borrow.Author.Needs.{needs}
-use mathlib.Core.Path.{sym, _∙_}
-use Rattle.split.proofs.QuoteLaws.{quote-framed, quote-few, quote-cased, quote-made}
+use mathlib.Core.Bool.{false}
+use mathlib.Core.Path.{_≡_, sym, _∙_}
+use lib.ListN.{length}
+use Rattle.split.specs.Frame.{badCharacter}
+use Rattle.split.specs.Refusal.{badLength}
+use Rattle.split.proofs.QuoteLaws.{count-listed, quote-misspelt, quote-mismeasured, quote-cased, quote-made}
 use Rattle.split.proofs.quote.Statement.{statement}
 use Rattle.split.proofs.quote.Tie as tie
 
 returns : tie.Need-returns
 returns c =
-    quote-framed _ _ _ (c .before .before .before .read-head .ensures) (c .before .before .frame-refusal .ensures) _
-    (c .before .if1 .taken) (c .refused-quote .ensures)
+    quote-misspelt _ _ (sym (c .before .before .has-bad-character .ensures) ∙ c .before .if1 .taken) (c .refused-quote .ensures)
 
-read-pensions-requires : tie.Need-read-pensions-requires
-read-pensions-requires c κs =
-    quote-few _ _ _ (c .before .before .before .read-head .ensures) (c .before .before .frame-refusal .ensures)
-    (c .before .if1 .left)
-
-case-refusal-requires : tie.Need-case-refusal-requires
-case-refusal-requires c κs =
-    quote-few _ _ _ (c .before .before .before .before .read-head .ensures) (c .before .before .before .frame-refusal .ensures)
-    (c .before .before .if1 .left)
+-- past the first test the line has digits only
+spelt : (c : tie.Else1) → badCharacter (c .before .before .before .args .line .now) ≡ false
+spelt c = sym (c .before .has-bad-character .ensures) ∙ c .if1 .left
 
 returns-2 : tie.Need-returns-2
 returns-2 c =
-    let e = c .before .before .before .before .before in
-    quote-cased _ _ _ (e .before .before .read-head .ensures) (e .before .frame-refusal .ensures) (e .if1 .left) _
-    (c .before .before .before .read-pensions .ensures .0) _ (c .before .before .case-refusal .ensures) _
-    (c .before .if2 .taken) (c .refused-quote2 .ensures)
+    let e = c .before .before in
+    quote-mismeasured _ _ (spelt (e .before .before)) (e .before .read-head .ensures) _
+    (sym (e .has-bad-length .ensures) ∙ c .before .if2 .taken) (c .refused-quote2 .ensures)
 
-granted-quote-requires : tie.Need-granted-quote-requires
-granted-quote-requires c κs =
-    let e = c .before .before .before .before in (
-      quote-few _ _ _ (e .before .before .read-head .ensures) (e .before .frame-refusal .ensures) (e .if1 .left),
-      sym (c .before .case-refusal .ensures) ∙ c .if2 .left,
-    )
+-- past the second its length is that of its count
+measured : (c : tie.Else2)
+    → badLength (length (c .before .before .before .before .before .before .args .line .now)) (c .before .before .read-head .result .count) ≡ false
+measured c = sym (c .before .has-bad-length .ensures) ∙ c .if2 .left
+
+few : (c : tie.Else2) → c .before .before .read-head .result .count ≤ 4
+few c = count-listed _ _ (measured c)
 
 returns-3 : tie.Need-returns-3
 returns-3 c =
     let e = c .before .before .before .before .before in
-    quote-made _ _ _ (e .before .before .read-head .ensures) (e .before .frame-refusal .ensures) (e .if1 .left) _
+    quote-cased _ _ (spelt (e .before .before .before)) (e .before .before .read-head .ensures) (measured e) _
     (c .before .before .before .read-pensions .ensures .0) _ (c .before .before .case-refusal .ensures) _
-    (c .before .if2 .left) (c .granted-quote .ensures)
+    (c .before .if3 .taken) (c .refused-quote3 .ensures)
+
+granted-quote-requires : tie.Need-granted-quote-requires
+granted-quote-requires c κs =
+    (few (c .before .before .before .before), sym (c .before .case-refusal .ensures) ∙ c .if3 .left)
+
+returns-4 : tie.Need-returns-4
+returns-4 c =
+    let e = c .before .before .before .before .before in
+    quote-made _ _ (spelt (e .before .before .before)) (e .before .before .read-head .ensures) (measured e) _
+    (c .before .before .before .read-pensions .ensures .0) _ (c .before .before .case-refusal .ensures) _
+    (c .before .if3 .left) (c .granted-quote .ensures)
 
 pub quote-spec : {M : Type 1} → statement M
 quote-spec =
     tie.close
-    (tie.spec (search needs) (search needs) (search needs) returns (search needs) read-pensions-requires
-    case-refusal-requires (search needs) returns-2 granted-quote-requires returns-3)
+    (tie.spec (search needs) (search needs) returns (λ c κs. spelt c) (search needs) (search needs) returns-2 (search needs)
+    (λ c κs. (few (c .before), spelt (c .before .before .before .before)))
+    (λ c κs. few (c .before .before)) (search needs) returns-3 granted-quote-requires returns-4)

@@ -24,4 +24,4 @@ returns c = let s = c .before .before .before .before .before .before .before .b
 
 pub read-head-spec : {M : Type 1} → statement M
 read-head-spec =
-    tie.close (tie.spec (search needs) (search needs) (search needs) (search needs) returns)
+    tie.close (tie.spec (λ c κs. search needs) (λ c κs. search needs) (λ c κs. search needs) (λ c κs. search needs) returns)

@@ -21,4 +21,4 @@ returns c =
 pub read-pension-spec : {M : Type 1} → statement M
 read-pension-spec =
     tie.close
-    (tie.spec (search needs) (search needs) (search needs) (search needs) (search needs) returns)
+    (tie.spec (λ c κs. search needs) (λ c κs. search needs) (λ c κs. search needs) (λ c κs. search needs) (λ c κs. search needs) returns)

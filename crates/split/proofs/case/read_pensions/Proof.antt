@@ -24,16 +24,16 @@ loop-holds c = (zero-le, refl, refl)
 
 -- a place in the loop is one of the four
 place : (c : tie.In-loop Inv-loop μ-loop) → c .before .loop .i < 4
-place c = lt-of-lt-of-le (c .loop-test .taken) (c .before .before .before .before .pre)
+place c = lt-of-lt-of-le (c .loop-test .taken) (c .before .before .before .before .pre .0)
 
 loop-again : tie.Need-loop-again Inv-loop μ-loop
 loop-again c =
     let l = c .before .before .loop in
     let a = c .before .before .before .before .before .args in (
       add-one-le (c .before .loop-test .taken),
-      length-set (l .pensions) (l .i) (c .read-pension2 .result) ∙ l .inv .1,
-      pensions-stored (a .line .now) (l .pensions) (l .i) (c .read-pension2 .result)
-          (up-to (l .pensions) (l .inv .1) (place (c .before))) (l .inv .2) (c .read-pension2 .ensures),
+      length-set (l .pensions) (l .i) (c .read-pension .result) ∙ l .inv .1,
+      pensions-stored (a .line .now) (l .pensions) (l .i) (c .read-pension .result)
+          (up-to (l .pensions) (l .inv .1) (place (c .before))) (l .inv .2) (c .read-pension .ensures),
     )
 
 returns : tie.Need-returns Inv-loop μ-loop
@@ -51,7 +51,7 @@ read-pensions-spec =
     (tie.spec Inv-loop μ-loop (search needs) loop-holds
     (λ c. fits-below tt (mul-le-mul-left 44 (le-of-lt (place c))))
     (λ c. fits-below tt (pension-start (c .before .loop .i) (place c)))
-    (λ c κs. pension-start (c .before .loop .i) (place c))
+    (λ c κs. (pension-start (c .before .loop .i) (place c), c .before .before .before .before .pre .1))
     (λ c. fits-below tt (mul-le-mul-right 28 (le-of-lt (place (c .before))))) (λ c. place (c .before))
     (λ c. fits-below tt (add-one-le (place (c .before)))) (λ c. fewer _ _ (c .before .loop-test .taken)) loop-again
     returns)

@@ -13,4 +13,4 @@ returns c =
     (start .date .result .value) (end .date2 .result .value) (start .date .ensures) (end .date2 .ensures)
 
 pub read-service-spec : {M : Type 1} → statement M
-read-service-spec = tie.close (tie.spec (search needs) (search needs) returns)
+read-service-spec = tie.close (tie.spec (λ c κs. search needs) (λ c κs. search needs) returns)

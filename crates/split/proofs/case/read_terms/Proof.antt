@@ -16,4 +16,4 @@ returns c =
 
 pub read-terms-spec : {M : Type 1} → statement M
 read-terms-spec =
-    tie.close (tie.spec (search needs) (search needs) (search needs) (search needs) returns)
+    tie.close (tie.spec (λ c κs. search needs) (λ c κs. search needs) (λ c κs. search needs) (λ c κs. search needs) returns)

@@ -1,14 +1,24 @@
--- `hex_value` is the definition `hexValue`: antt computes it at each of the 256 entries.
+-- `hex_value` is the definition `hexValue`: the tests of its branches are the definition's.
 use native.Mathlib.Omega.{arith}
-use borrow.Author.Needs.{needs}
-use Rattle.factors.proofs.Table.{tabulate-at}
+use Rattle.factors.proofs.Laws.{within}
 use Rattle.split.specs.Frame.{hexValue}
 use Rattle.split.proofs.frame.hex_value.Statement.{statement}
 use Rattle.split.proofs.frame.hex_value.Tie as tie
 
 returns : tie.Need-returns
 unfolding hexValue
-returns c = tabulate-at hexValue 256 (c .args .character) (omega arith)
+returns c = simp (hexValue, c .if1 .taken)
+
+returns-2 : tie.Need-returns-2
+unfolding hexValue
+returns-2 c = simp (hexValue, c .before .if1 .left, c .if2 .taken)
+
+returns-3 : tie.Need-returns-3
+unfolding hexValue
+returns-3 c = simp (hexValue, c .before .if1 .left, c .if2 .left)
 
 pub hex-value-spec : {M : Type 1} → statement M
-hex-value-spec = tie.close (tie.spec (search needs) returns)
+hex-value-spec =
+    tie.close
+    (tie.spec (λ c. omega (arith, within 48 57 (c .before .args .character) (c .if1 .taken))) returns
+    (λ c. omega (arith, within 65 70 (c .before .before .args .character) (c .if2 .taken))) returns-2 returns-3)

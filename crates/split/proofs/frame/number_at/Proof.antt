@@ -1,4 +1,4 @@
--- `number_at` reads eight digits by the cursor; past the end they are zeros.
+-- `number_at` is eight digits; past the end they are zeros.
 use borrow.Author.Needs.{needs}
 use mathlib.Core.Path.{sym}
 use Rattle.split.proofs.FrameLaws.{number-past}

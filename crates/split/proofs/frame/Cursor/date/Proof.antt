@@ -15,4 +15,4 @@ returns c =
     (year .short .ensures) (month .byte .ensures) (day .byte2 .ensures)
 
 pub date-spec : {M : Type 1} → statement M
-date-spec = tie.close (tie.spec (search needs) (search needs) (search needs) returns)
+date-spec = tie.close (tie.spec (λ c κs. search needs) (λ c κs. search needs) (λ c κs. search needs) returns)

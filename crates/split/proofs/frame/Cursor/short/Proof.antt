@@ -9,4 +9,4 @@ cast-t5 : tie.Need-cast-t5
 cast-t5 c = omega (arith, number-below (c .before .before .before .before .args .line .now) (c .before .before .before .before .args .self .at) 4, c .before .before .digits .ensures .0)
 
 pub short-spec : {M : Type 1} → statement M
-short-spec = tie.close (tie.spec (search needs) cast-t5 (search needs))
+short-spec = tie.close (tie.spec (λ c κs. search needs) cast-t5 (search needs))
