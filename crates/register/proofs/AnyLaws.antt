@@ -1,7 +1,7 @@
 -- `any` of two lists one after the other, and by places: it holds where the test holds of some place, and only there.
 -- Each by induction on the list. Assumes nothing.
 use Prim.Native.Nat.{ℕ, zero, suc, _<_}
-use mathlib.Core.Bool.{Bool, true, false, _||_, or-assoc, false≢true}
+use mathlib.Core.Bool.{Bool, true, false, _&&_, _||_, or-assoc, false≢true}
 use mathlib.Core.List.{List, [], _∷_, _++_}
 use mathlib.Core.Path.{_≡_, refl, sym, _∙_, ap}
 use native.Mathlib.Omega.{arith}
@@ -16,6 +16,11 @@ any-append f (x ∷ l) m = ap (λ (b : Bool). f x || b) (any-append f l m) ∙ s
 pub neither : (a b : Bool) → (a || b) ≡ false → (a ≡ false) × (b ≡ false)
 neither true b e = absurd (false≢true (sym e))
 neither false b e = (refl, e)
+
+-- both of two
+pub both : (a b : Bool) → (a && b) ≡ true → (a ≡ true) × (b ≡ true)
+both true b e = (refl, e)
+both false b e = absurd (false≢true e)
 
 -- where the test holds of none, it fails at each place
 pub any-none : {A : Type 0} (f : A → Bool) (l : List A) (i : ℕ) (d : A) → any f l ≡ false → i < length l

@@ -2,7 +2,7 @@
 -- by character, as what is left of it from a place on; and the check of the lines from an offset on by the line there.
 -- Assumes nothing.
 use Prim.Native.Nat.{ℕ, zero, suc, _+_, _-_, _/_, _%_, _≤_, _<_}
-use mathlib.Core.Bool.{Bool, true, false, cond, not}
+use mathlib.Core.Bool.{Bool, true, false, cond, not, _&&_, _||_}
 use mathlib.Core.List.{List, _∷_}
 use mathlib.Core.Path.{_≡_, refl, sym, _∙_, ap}
 use native.Mathlib.Decide.{decLt}
@@ -10,13 +10,13 @@ use native.Mathlib.Nat.{add-assoc, add-zero, sub-zero, sub-self, sub-eq-zero-of-
 use native.Mathlib.Numerals.{add-one}
 use native.Mathlib.Omega.{arith}
 use lib.Dec.{ltb, eqb}
-use lib.ListN.{length, getD, take, drop}
+use lib.ListN.{length, getD, take, drop, length-take, length-drop}
 use lib.Seq.{getD-take, getD-drop, drop-drop}
-use borrow.Author.Tests.{lt-ltb, le-ltb, ltb-false, eqb-true, not-false}
-use Rattle.split.specs.Frame.{hexValue, digitAt, numberAt}
+use borrow.Author.Tests.{lt-ltb, le-ltb, ltb-false, eqb-true, eq-eqb, not-false, not-true}
+use Rattle.split.specs.Frame.{hexValue, badCharacter, digitAt, numberAt}
 use Rattle.register.specs.Line.{fieldWidths, numberWidth, textLength, lineLength, figuresIn, numberIn}
 use Rattle.register.specs.Check.{linesOf, badAt, firstBad, wrongNumber, lineFault, sound, unsound, checkLines, badUsed, checkOf}
-use Rattle.register.proofs.AnyLaws.{neither}
+use Rattle.register.proofs.AnyLaws.{neither, both, any-none}
 use Rattle.register.proofs.CheckLaws.{number-inside}
 
 pub line-length-is : lineLength ≡ 121
@@ -147,6 +147,34 @@ lines-next : (s : List ℕ) (used at : ℕ) → at + lineLength ≤ used
 unfolding linesOf
 lines-next s used at h = simp (count-next used at h, drop-drop)
 
+-- what the test of a line's layout says of each character
+text-length-is : textLength ≡ 120
+unfolding textLength fieldWidths
+text-length-is = refl
+
+layout-good : (s : List ℕ) (at : ℕ) → at + 121 ≤ length s
+    → (not (badCharacter (take textLength (take (at + 121 - at) (drop at s)))) && eqb (getD (take (at + 121 - at) (drop at s)) textLength 0) 10) ≡ true
+    → (place : ℕ) → place < 121 → badCharacterAt place (getD s (at + place) 0) ≡ false
+unfolding badCharacter
+layout-good s at inside laid place h =
+    let part = take (at + 121 - at) (drop at s) in
+    let b = both (not (badCharacter (take textLength part))) (eqb (getD part textLength 0) 10) laid in
+    let read : getD part place 0 ≡ getD s (at + place) 0 =
+    getD-take (at + 121 - at) (drop at s) place 0 (omega arith) ∙ getD-drop at s place 0
+    in
+    elim (decLt place textLength) [
+      | yes digit ↦
+          simp (lt-ltb place textLength digit)
+          (rw (getD-take textLength part place 0 digit, read) at
+          (any-none (λ (c : ℕ). eqb (hexValue c) 16) (take textLength part) place 0
+          (not-true (badCharacter (take textLength part)) (b .0))
+          (simp (length-take, length-drop) (omega (arith, text-length-is)))))
+      | no newline ↦
+          let e : textLength ≡ place = omega (arith, text-length-is) in
+          let ended : eqb (getD s (at + place) 0) 10 ≡ true = rw (e, read) at (b .1) in
+          simp (le-ltb place textLength (omega arith), ended)
+    ]
+
 -- what a loop over the lines does at an offset, and a loop over the characters at a place, in the numbers of the code
 module _ (s : List ℕ) (at expected : ℕ) where
   -- the fault is the one from a place on
@@ -168,6 +196,35 @@ module _ (s : List ℕ) (at expected : ℕ) where
   left-next place h right b left =
       let inside : place < lineLength = omega (arith, line-length-is) in
       left ∙ fault-next expected (lineAt s at) place inside (right-line place right) (bad-line s at place inside ∙ b)
+
+  -- where no character is bad and the number is right, the fault is the one from any place on
+  left-all : ((place : ℕ) → place < 121 → badCharacterAt place (getD s (at + place) 0) ≡ false)
+      → wrongNumber expected (numberAt s at 8) ≡ false → (k : ℕ) → k ≤ 121 → Left k
+  left-all good right zero h = left-start
+  left-all good right (suc k) h =
+      rw add-one at (left-next k (omega arith) (λ _. right) (good k (omega arith)) (left-all good right k (omega arith)))
+
+  -- the number by the test of it, where the place is the number's and in general
+  module _ (number : ℕ) (wrong : Bool) (read : number ≡ numberAt s at 8) (tested : wrong ≡ wrongNumber expected number) where
+    same-test : wrongNumber expected (numberAt s at 8) ≡ wrong
+    same-test = ap (wrongNumber expected) (sym read) ∙ sym tested
+
+    pub right-passed : (place : ℕ) → (eqb place 8 && wrong) ≡ false → Right place
+    right-passed place passed e = same-test ∙ simp (eq-eqb place 8 e) at passed
+
+    pub wrong-found : (place : ℕ) → (eqb place 8 && wrong) ≡ true
+        → (place ≡ 8) × (wrongNumber expected (numberAt s at 8) ≡ true)
+    wrong-found place found =
+        let b = both (eqb place 8) wrong found in
+        (eqb-true place 8 (b .0), same-test ∙ b .1)
+
+    -- a line that passes both tests at once has no fault
+    pub left-whole : at + 121 ≤ length s → (whole : Bool)
+        → whole ≡ (not (badCharacter (take textLength (take (at + 121 - at) (drop at s)))) && eqb (getD (take (at + 121 - at) (drop at s)) textLength 0) 10)
+        → (wrong || not whole) ≡ false → Left 121
+    left-whole inside whole laid passed =
+        let n = neither wrong (not whole) passed in
+        left-all (λ place h. layout-good s at inside (sym laid ∙ not-false whole (n .1)) place h) (same-test ∙ n .0) 121 (omega arith)
 
 module _ (s : List ℕ) (used at expected : ℕ) where
   pub check-done : used ≤ at → checkLines expected at (linesLeft s used at) ≡ sound

@@ -100,18 +100,18 @@ module _ (s : List ℕ) (ls : List (List ℕ)) (held : Held (length s) ls) where
   unfolding checkOf
   laid-check = simp (laid-length, used-good (length s) ls (held .lines) (held .room), laid-lines)
 
-  laid-refusal : (c : List ℕ) → fileRefusal (laid s ls) (usedBy ls) c ≡ ledgerRefusal (length s) ls c
+  pub laid-refusal : (c : List ℕ) → fileRefusal (laid s ls) (usedBy ls) c ≡ ledgerRefusal (length s) ls c
   unfolding fileRefusal ledgerRefusal
   laid-refusal c = simp (laid-check, laid-length, used-good (length s) ls (held .lines) (held .room), laid-lines)
 
 -- a filing answers what the ledger answers, and the buffer, the used length and the lines go on together
-record Follows (s : List ℕ) (ls : List (List ℕ)) (c : List ℕ) : Type 0 where
-  answer : fileAnswer (laid s ls) (usedBy ls) c ≡ ledgerAnswer (length s) ls c
-  bytes : bytesAfter (laid s ls) (usedBy ls) c ≡ laid s (ledgerAfter (length s) ls c)
-  used : usedAfter (laid s ls) (usedBy ls) c ≡ usedBy (ledgerAfter (length s) ls c)
-  held : Held (length s) (ledgerAfter (length s) ls c)
+pub record Follows (s : List ℕ) (ls : List (List ℕ)) (c : List ℕ) : Type 0 where
+  pub answer : fileAnswer (laid s ls) (usedBy ls) c ≡ ledgerAnswer (length s) ls c
+  pub bytes : bytesAfter (laid s ls) (usedBy ls) c ≡ laid s (ledgerAfter (length s) ls c)
+  pub used : usedAfter (laid s ls) (usedBy ls) c ≡ usedBy (ledgerAfter (length s) ls c)
+  pub held : Held (length s) (ledgerAfter (length s) ls c)
 
-follows : (s : List ℕ) (ls : List (List ℕ)) (c : List ℕ) → Held (length s) ls → Follows s ls c
+pub follows : (s : List ℕ) (ls : List (List ℕ)) (c : List ℕ) → Held (length s) ls → Follows s ls c
 unfolding fileAnswer bytesAfter usedAfter ledgerAnswer ledgerAfter
 follows s ls c held = go (eqb (ledgerRefusal (length s) ls c) 0) refl
   where

@@ -2,34 +2,35 @@
 -- a text cut into lines, filed one after the other: what the lines passed have left is the register that the list claim
 -- speaks of, so it is sound, and its next number counts its lines. Assumes nothing.
 use Prim.Native.Nat.{ℕ, zero, suc, _+_, _-_, _*_, _/_, _%_, _≤_, _<_, min}
-use mathlib.Core.Bool.{Bool, true, false, cond, not}
+use mathlib.Core.Bool.{Bool, true, false, cond}
 use mathlib.Core.List.{List, [], _∷_, _++_, append-nil, append-assoc}
 use mathlib.Core.Path.{_≡_, refl, sym, _∙_, ap}
 use native.Mathlib.Decide.{decLt, ℕ-discrete}
 use native.Mathlib.Nat.{zero-mul, mul-div-cancel}
 use native.Mathlib.Omega.{arith}
 use lib.Dec.{eqb, ltb}
-use lib.ListN.{length, getD, take, drop, set, length-append, length-drop, drop-of-length-le}
+use lib.ListN.{length, getD, take, drop, set, length-append, length-take, length-drop, drop-of-length-le}
 use lib.Seq.{getD-take, getD-drop, drop-drop}
-use borrow.Author.Tests.{eqb-true, eqb-false, eq-eqb, ne-eqb, ltb-false, not-false, lt-ltb, le-ltb}
+use borrow.Author.Tests.{eqb-true, eqb-false, eq-eqb, ne-eqb, lt-ltb, le-ltb}
 use Rattle.split.specs.Frame.{digitAt, numberAt}
 use Rattle.split.specs.Refusal.{refusalOf}
 use Rattle.split.specs.Quote.{quoteOf}
 use Rattle.split.specs.declared.shares.Quote.{Quote}
-use Rattle.split.proofs.FrameLaws.{number-below}
-use Rattle.split.proofs.QuoteLaws.{quote-refusal}
+use Rattle.split.proofs.QuoteLaws.{quote-fits, quote-refusal}
 use Rattle.register.specs.declared.answers.Checked.{Checked}
 use Rattle.register.specs.declared.answers.Filed.{Filed}
+use Rattle.register.specs.declared.answers.FiledLines.{FiledLines}
 use Rattle.register.specs.Ledger.{ledgerLines}
-use Rattle.register.specs.Line.{fieldWidths, lineLength, lineOf, figuresIn, numberIn}
-use Rattle.register.specs.Check.{linesOf, badUsed, checkOf}
+use Rattle.register.specs.Line.{lineLength, lineOf, numberIn}
+use Rattle.register.specs.Check.{linesOf, checkOf}
 use Rattle.register.specs.File.{nextNumber, firstNumber, fileRefusal, fileAnswer, usedAfter, bytesAfter, answersOf, bufferOf, usedOf}
-use Rattle.register.specs.Text.{linesWith, textLines, told, FiledAll}
-use Rattle.register.specs.Places.{Sound, LineEnd}
-use Rattle.register.proofs.AnyLaws.{neither}
+use Rattle.register.specs.Text.{linesWith, textLines, told, filedLines, FiledAll}
+use Rattle.register.specs.Places.{Sound, Known, hasNewline, LineEnd}
+use Rattle.register.proofs.AnyLaws.{any-none}
 use Rattle.register.proofs.CheckLaws.{line-positive, bytes-length}
-use Rattle.register.proofs.ListClaims.{from-empty, from-first, left-lines, left-sound, list-claim}
+use Rattle.register.proofs.ListClaims.{list-claim}
 use Rattle.register.proofs.WritingLaws.{line-121}
+use Rattle.register.proofs.SoundLaws.{sound-low, sound-next, number-field, used-inside, checked-sound}
 
 -- one more character that is no newline
 pub unbroken-more : (text : List ℕ) (at end : ℕ) → ((j : ℕ) → at ≤ j → j < end → eqb (getD text j 0) 10 ≡ false)
@@ -41,6 +42,32 @@ unbroken-more text at end before here j h g =
           let e : end ≡ j = omega arith in
           ne-eqb (getD text j 0) 10 (λ z. here (ap (λ (n : ℕ). getD text n 0) e ∙ z))
     ]
+
+-- a whole span that has none
+pub unbroken-span : (text : List ℕ) (at end n : ℕ) → end + n ≤ length text
+    → ((j : ℕ) → at ≤ j → j < end → eqb (getD text j 0) 10 ≡ false)
+    → hasNewline (take (end + n - end) (drop end text)) ≡ false
+    → (j : ℕ) → at ≤ j → j < end + n → eqb (getD text j 0) 10 ≡ false
+unfolding hasNewline
+unbroken-span text at end n inside before none j h g =
+    elim (decLt j end) [
+      | yes l ↦ before j h l
+      | no l ↦
+          let e : end + (j - end) ≡ j = omega arith in
+          rw (getD-take (end + n - end) (drop end text) (j - end) 0 (omega arith), getD-drop, e) at
+          (any-none (λ (c : ℕ). eqb c 10) (take (end + n - end) (drop end text)) (j - end) 0 none
+          (simp (length-take, length-drop) (omega arith)))
+    ]
+
+-- the end of a line is the first newline behind characters that are none
+pub end-further : (text : List ℕ) (at mid end : ℕ) → at ≤ mid
+    → ((j : ℕ) → at ≤ j → j < mid → eqb (getD text j 0) 10 ≡ false) → LineEnd text mid end → LineEnd text at end
+end-further text at mid end h before found = record {
+  after = omega (arith, found .after);
+  inside = found .inside;
+  unbroken = λ j g l. elim (decLt j mid) [ yes m ↦ before j g m | no m ↦ found .unbroken j (omega arith) l ];
+  ended = found .ended;
+}
 
 -- the number after n + 1 lines is one more than the last
 number-take : (s : List ℕ) (n at k : ℕ) → at + k ≤ n → numberAt (take n s) at k ≡ numberAt s at k
@@ -54,10 +81,6 @@ number-drop s n at zero = refl
 number-drop s n at (suc k) =
     let e : n + (at + k) ≡ (n + at) + k = omega arith in
     simp (number-drop s n at k, getD-drop n s (at + k) 0, e)
-
-number-field : (l : List ℕ) → numberIn l ≡ numberAt l 0 8
-unfolding numberIn figuresIn fieldWidths
-number-field l = refl
 
 next-last : (s : List ℕ) (first n : ℕ) → nextNumber first (linesOf (suc n) s) ≡ numberAt s (n * lineLength) 8 + 1
 unfolding linesOf
@@ -87,14 +110,13 @@ next-some s used h whole =
     ∙ next-last s firstNumber (used / 121 - 1)
     ∙ ap (λ (m : ℕ). numberAt s m 8 + 1) p)
 
--- it is at most one more than 32 bits hold
-pub next-low : (ls : List (List ℕ)) (first : ℕ) → first ≤ 4294967296 → nextNumber first ls ≤ 4294967296
-next-low [] first h = h
-next-low (l ∷ ls) first h = next-low ls (numberIn l + 1) (omega (arith, number-field l, number-below l 0 8))
-
 -- a quote's refusal is its line's
 pub quote-says : (q : Quote) (c : List ℕ) → q ≡ quoteOf c → q .refusal ≡ refusalOf c
 quote-says q c e = ap (λ (p : Quote). p .refusal) e ∙ quote-refusal c
+
+-- and it has four shares
+pub quote-whole : (q : Quote) (c : List ℕ) → q ≡ quoteOf c → length (q .shares) ≡ 4
+quote-whole q c e = ap (λ (p : Quote). length (p .shares)) e ∙ quote-fits c .four
 
 -- and what a check finds is the definition's
 pub check-says : (k : Checked) (s : List ℕ) (used : ℕ) → k ≡ checkOf s used → k .refusal ≡ checkOf s used .refusal
@@ -105,27 +127,6 @@ refused : (s c : List ℕ) (used x : ℕ) → fileRefusal s used c ≡ x → (x 
     → (record { refusal = x; used = 0 } ≡ fileAnswer s used c) × (s ≡ bytesAfter s used c)
 unfolding fileAnswer bytesAfter
 refused s c used x e some = simp (e, ne-eqb x 0 some) (refl, refl)
-
--- a used length that is not bad
-good-used : (buffer used : ℕ) → badUsed buffer used ≡ false → (used ≤ buffer) × (used % lineLength ≡ 0)
-unfolding badUsed
-good-used buffer used e =
-    let h = neither (ltb buffer used) (not (eqb (used % lineLength) 0)) e in
-    (ltb-false buffer used (h .0), eqb-true (used % lineLength) 0 (not-false (eqb (used % lineLength) 0) (h .1)))
-
--- a used length that passed the check
-pub used-inside : (s : List ℕ) (used : ℕ) → checkOf s used .refusal ≡ 0 → (used ≤ length s) × (used % lineLength ≡ 0)
-unfolding checkOf
-used-inside s used e = go (badUsed (length s) used) refl
-  where
-    go : (b : Bool) → badUsed (length s) used ≡ b → (used ≤ length s) × (used % lineLength ≡ 0)
-    go true bad = let z : _≡_ {A = ℕ} 11 0 = simp bad at e in absurd (omega arith)
-    go false good = good-used (length s) used good
-
--- a register that passed it, with its next number, is sound
-pub checked-sound : (s : List ℕ) (used next : ℕ) → checkOf s used .refusal ≡ 0
-    → next ≡ nextNumber firstNumber (linesOf (used / lineLength) s) → Sound s used next
-checked-sound s used next e f = record { inside = used-inside s used e .0; checked = e; numbered = f }
 
 module _ (s c : List ℕ) (used : ℕ) where
   -- the case has a refusal
@@ -140,11 +141,6 @@ module _ (s c : List ℕ) (used : ℕ) where
   unfolding fileRefusal
   state-refused none bad =
       refused s c used 11 (simp (none, ne-eqb (checkOf s used .refusal) 0 bad)) (λ e. omega arith)
-
--- the next number of a sound register fits 32 bits unless it is one more
-pub sound-low : {s : List ℕ} {used next : ℕ} → Sound s used next → next ≤ 4294967296
-sound-low {s} {used} {next} sound =
-    omega (arith, sound .numbered, next-low (linesOf (used / lineLength) s) firstNumber (omega arith))
 
 module _ (s c : List ℕ) (used next : ℕ) (sound : Sound s used next) (none : refusalOf c ≡ 0) where
   state-refusal : fileRefusal s used c ≡ cond (ltb (length s - used) lineLength) 12 (cond (eqb next 4294967296) 13 0)
@@ -244,29 +240,19 @@ told-length [] old = refl
 told-length (a ∷ answers) [] = refl
 told-length (a ∷ answers) (o ∷ old) = ap suc (told-length answers old)
 
--- what has been told of answers in a buffer r, of which n places are taken
-pub record Told (answers : List Filed) (old r : List ℕ) (n : ℕ) : Type 0 where
-  pub refusals : r ≡ told answers old
-  pub count : n ≡ min (length answers) (length old)
-
-module _ {answers : List Filed} {old r : List ℕ} {n : ℕ} (t : Told answers old r n) where
+-- what has been told of answers in a buffer r: one more, where there is room and where there is none
+module _ (answers : List Filed) (old r : List ℕ) (so-far : r ≡ told answers old) where
   pub told-size : length r ≡ length old
-  told-size = ap length (t .refusals) ∙ told-length answers old
+  told-size = ap length so-far ∙ told-length answers old
 
-  pub told-next : (a : Filed) (x : ℕ) (r′ : List ℕ) (n′ : ℕ) → x ≡ a .refusal → n < length r → r′ ≡ set r n x → n′ ≡ n + 1
-      → Told (answers ++ (a ∷ [])) old r′ n′
-  told-next a x r′ n′ said h stored more =
-      let e : n ≡ length answers = omega (arith, told-size, t .count) in
-      record {
-        refusals = rw (stored, said, t .refusals, e) (sym (told-more answers a old (omega (arith, told-size))));
-        count = simp length-append (omega (arith, told-size, t .count));
-      }
+  pub told-next : (a : Filed) (n x : ℕ) (r′ : List ℕ) → n ≡ length answers → x ≡ a .refusal → n < length r → r′ ≡ set r n x
+      → r′ ≡ told (answers ++ (a ∷ [])) old
+  told-next a n x r′ count said h stored =
+      rw (stored, said, so-far, count) (sym (told-more answers a old (omega (arith, told-size))))
 
-  pub told-past : (a : Filed) (r′ : List ℕ) (n′ : ℕ) → length r ≤ n → r′ ≡ r → n′ ≡ n → Told (answers ++ (a ∷ [])) old r′ n′
-  told-past a r′ n′ h same stays = record {
-    refusals = same ∙ t .refusals ∙ sym (told-full answers a old (omega (arith, told-size, t .count)));
-    count = simp length-append (omega (arith, told-size, t .count));
-  }
+  pub told-past : (a : Filed) (n : ℕ) (r′ : List ℕ) → n ≡ length answers → length r ≤ n → r′ ≡ r
+      → r′ ≡ told (answers ++ (a ∷ [])) old
+  told-past a n r′ count h same = same ∙ so-far ∙ sym (told-full answers a old (omega (arith, told-size)))
 
 -- the used length after a filing, by its answer
 answer-used : (s c : List ℕ) (used : ℕ)
@@ -281,90 +267,140 @@ answer-used s c used = go (eqb (fileRefusal s used c) 0) refl
     go true e = simp e ((λ h. (refl, refl)), (λ h. absurd (h refl)))
     go false e = simp e ((λ h. absurd (eqb-false (fileRefusal s used c) 0 e h)), (λ h. refl))
 
--- What filing every line of a text keeps: the lines passed are filed, and the next number is one more than their count.
-pub record Passed (s₀ text r₀ s r : List ℕ) (used next n at : ℕ) : Type 0 where
+-- an answer's refusal is the filing's
+answer-refusal : (s c : List ℕ) (used : ℕ) → fileAnswer s used c .refusal ≡ fileRefusal s used c
+unfolding fileAnswer
+answer-refusal s c used = go (eqb (fileRefusal s used c) 0) refl
+  where
+    go : (b : Bool) → eqb (fileRefusal s used c) 0 ≡ b → fileAnswer s used c .refusal ≡ fileRefusal s used c
+    go true e = simp e (sym (eqb-true (fileRefusal s used c) 0 e))
+    go false e = simp e
+
+-- only a register that checks sound takes a case
+granted-checked : (s c : List ℕ) (used : ℕ) → fileRefusal s used c ≡ 0 → checkOf s used .refusal ≡ 0
+unfolding fileRefusal
+granted-checked s c used given = go (eqb (refusalOf c) 0) refl (eqb (checkOf s used .refusal) 0) refl
+  where
+    go : (b : Bool) → eqb (refusalOf c) 0 ≡ b → (k : Bool) → eqb (checkOf s used .refusal) 0 ≡ k → checkOf s used .refusal ≡ 0
+    go b case true sound = eqb-true (checkOf s used .refusal) 0 sound
+    go true case false bad = let z : _≡_ {A = ℕ} 11 0 = simp (case, bad) at given in absurd (omega arith)
+    go false case false bad = absurd (eqb-false (refusalOf c) 0 case (simp case at given))
+
+-- the used length and what is known of the register after an answer
+module _ (s c : List ℕ) (used next : ℕ) (sound : Bool) (known : Known s used sound next) (a : Filed) (answered : a ≡ fileAnswer s used c) where
+  said : a .refusal ≡ fileRefusal s used c
+  said = ap (λ (f : Filed). f .refusal) answered ∙ answer-refusal s c used
+
+  granted-sound : a .refusal ≡ 0 → Sound s used next
+  granted-sound h = go sound refl
+    where
+      go : (b : Bool) → sound ≡ b → Sound s used next
+      go true e = known .good e
+      go false e = absurd (known .bad e (granted-checked s c used (sym said ∙ h)))
+
+  pub granted-low : a .refusal ≡ 0 → next ≤ 4294967296
+  granted-low h = sound-low (granted-sound h)
+
+  pub granted-next : (used′ next′ : ℕ) (sound′ : Bool) → a .refusal ≡ 0 → used′ ≡ a .used → next′ ≡ next + 1 → sound′ ≡ sound
+      → (used′ ≡ usedAfter s used c) × Known (bytesAfter s used c) used′ sound′ next′
+  granted-next used′ next′ sound′ h moved more same =
+      let g = answer-used s c used .0 (ap (λ (f : Filed). f .refusal) (sym answered) ∙ h) in
+      let e : used′ ≡ used + lineLength = moved ∙ ap (λ (f : Filed). f .used) answered ∙ g .0 ∙ g .1 in
+      let none : fileRefusal s used c ≡ 0 = sym said ∙ h in (
+        e ∙ sym (g .1),
+        record {
+          good = λ _. rw (e, more) (sound-next s c used next (granted-sound h) none);
+          bad = λ f. absurd (known .bad (sym same ∙ f) (granted-checked s c used none));
+        },
+      )
+
+  pub refused-next : (used′ next′ : ℕ) (sound′ : Bool) → (a .refusal ≡ 0 → ⊥) → used′ ≡ used → next′ ≡ next → sound′ ≡ sound
+      → (used′ ≡ usedAfter s used c) × Known (bytesAfter s used c) used′ sound′ next′
+  refused-next used′ next′ sound′ h stays next-same same = (
+    stays ∙ sym (answer-used s c used .1 (λ e. h (ap (λ (f : Filed). f .refusal) answered ∙ e))),
+    rw (stays, next-same, same, ← refused s c used (fileRefusal s used c) refl (λ e. h (said ∙ e)) .1) known,
+  )
+
+-- What filing the lines of a text keeps: the lines passed are filed, and what is known of the register is known of what they left.
+pub record Passed (s₀ : List ℕ) (used₀ : ℕ) (text r₀ s r : List ℕ) (sound : Bool) (next used n at : ℕ) : Type 0 where
   pub done : List (List ℕ)
   pub lines : textLines text ≡ done ++ textLines (drop at text)
-  pub bytes : s ≡ bufferOf s₀ 0 done
-  pub length-used : used ≡ usedOf s₀ 0 done
-  pub number : next ≡ 1 + used / lineLength
-  pub told-so : Told (answersOf s₀ 0 done) r₀ r n
+  pub bytes : s ≡ bufferOf s₀ used₀ done
+  pub length-used : used ≡ usedOf s₀ used₀ done
+  pub known : Known s used sound next
+  pub refusals : r ≡ told (answersOf s₀ used₀ done) r₀
+  pub count : n ≡ length (answersOf s₀ used₀ done)
 
-pub passed-none : (s text r : List ℕ) → Passed s text r s r 0 1 0 0
+pub passed-none : (s : List ℕ) (used : ℕ) (text r : List ℕ) (sound : Bool) (next : ℕ) → Known s used sound next
+    → Passed s used text r s r sound next used 0 0
 unfolding bufferOf usedOf answersOf told
-passed-none s text r = record {
+passed-none s used text r sound next known = record {
   done = [];
   lines = refl;
   bytes = refl;
   length-used = refl;
-  number = rw line-121;
-  told-so = record { refusals = refl; count = omega arith };
+  known = known;
+  refusals = refl;
+  count = refl;
 }
 
--- what filings left is sound, and its next number is one more than the count of its lines
-filed-sound : (s : List ℕ) (cs : List (List ℕ)) → Sound (bufferOf s 0 cs) (usedOf s 0 cs) (1 + usedOf s 0 cs / lineLength)
-filed-sound s cs =
-    let f = from-empty s cs in
-    let ls = ledgerLines (length s) [] cs in
-    let lines : usedOf s 0 cs / lineLength ≡ length ls =
-    simp (f .used, bytes-length ls (f .held .lines), mul-div-cancel (length ls) line-positive)
-    in
-    record {
-      inside = simp (f .bytes, f .used, length-append) (omega arith);
-      checked = ap (λ (r : Checked). r .refusal) (left-sound s cs);
-      numbered =
-          ap (λ (n : ℕ). 1 + n) (lines ∙ list-claim s cs .count)
-          ∙ sym (from-first s cs .next)
-          ∙ ap (nextNumber firstNumber) (sym (left-lines s cs));
-    }
+answers-count : (s : List ℕ) (used : ℕ) (cs : List (List ℕ)) → length (answersOf s used cs) ≡ length cs
+unfolding answersOf
+answers-count s used [] = refl
+answers-count s used (c ∷ cs) = ap suc (answers-count (bytesAfter s used c) (usedAfter s used c) cs)
 
-module _ {s₀ text r₀ s r : List ℕ} {used next n at : ℕ} (p : Passed s₀ text r₀ s r used next n at) where
-  pub passed-sound : Sound s used next
-  passed-sound = rw (p .number, p .length-used, p .bytes) (filed-sound s₀ (p .done))
+module _ {s₀ : List ℕ} {used₀ : ℕ} {text r₀ s r : List ℕ} {sound : Bool} {next used n at : ℕ}
+    (p : Passed s₀ used₀ text r₀ s r sound next used n at) where
+  pub passed-size : length r ≡ length r₀
+  passed-size = told-size (answersOf s₀ used₀ (p .done)) r₀ r (p .refusals)
 
-  pub passed-all : length text ≤ at → FiledAll s₀ text r₀ s r used
-  unfolding textLines linesWith
+  pub passed-all : length text ≤ at
+      → (record { used = used; lines = n } ≡ filedLines s₀ used₀ (textLines text))
+      × (s ≡ bufferOf s₀ used₀ (textLines text))
+      × (r ≡ told (answersOf s₀ used₀ (textLines text)) r₀)
+  unfolding textLines linesWith filedLines
   passed-all h =
       let e : textLines text ≡ p .done =
       p .lines ∙ ap (λ (l : List ℕ). p .done ++ textLines l) (drop-of-length-le text {i = at} h) ∙ append-nil (p .done)
-      in record {
-        claim = rw (e, p .bytes, p .length-used) (list-claim s₀ (p .done));
-        given = rw e (p .told-so .refusals);
-      }
+      in rw e (
+        λ i. record { used = p .length-used i; lines = (p .count ∙ answers-count s₀ used₀ (p .done)) i },
+        p .bytes,
+        p .refusals,
+      )
 
   module _ (end : ℕ) (h : at < length text) (found : LineEnd text at end) where
     abbrev line : List ℕ
     line = take (end - at) (drop at text)
 
     -- the line from here to its end is filed
-    pub passed-next : (after r′ : List ℕ) (used′ next′ n′ : ℕ) → after ≡ bytesAfter s used line
-        → (used′ ≡ usedAfter s used line) × (next′ ≡ 1 + used′ / lineLength)
-        → Told (answersOf s₀ 0 (p .done) ++ (fileAnswer s used line ∷ [])) r₀ r′ n′
-        → Passed s₀ text r₀ after r′ used′ next′ n′ (end + 1)
-    passed-next after r′ used′ next′ n′ written counted answered = record {
-      done = p .done ++ (line ∷ []);
-      lines = p .lines ∙ rw (line-cut text at end h found) (sym (append-assoc (p .done) (line ∷ []) (textLines (drop (end + 1) text))));
-      bytes = written ∙ rw (buffer-more, p .bytes, p .length-used);
-      length-used = counted .0 ∙ rw (used-more, p .bytes, p .length-used);
-      number = counted .1;
-      told-so = rw (answers-more s₀ 0 (p .done) line, ← p .bytes, ← p .length-used) answered;
-    }
+    pub passed-next : (after r′ : List ℕ) (sound′ : Bool) (next′ used′ n′ : ℕ) → after ≡ bytesAfter s used line
+        → (used′ ≡ usedAfter s used line) × Known (bytesAfter s used line) used′ sound′ next′
+        → r′ ≡ told (answersOf s₀ used₀ (p .done) ++ (fileAnswer s used line ∷ [])) r₀ → n′ ≡ n + 1
+        → Passed s₀ used₀ text r₀ after r′ sound′ next′ used′ n′ (end + 1)
+    passed-next after r′ sound′ next′ used′ n′ written left answered more =
+        let answers : answersOf s₀ used₀ (p .done ++ (line ∷ [])) ≡ answersOf s₀ used₀ (p .done) ++ (fileAnswer s used line ∷ []) =
+        rw (p .bytes, p .length-used) (answers-more s₀ used₀ (p .done) line)
+        in record {
+          done = p .done ++ (line ∷ []);
+          lines = p .lines ∙ rw (line-cut text at end h found) (sym (append-assoc (p .done) (line ∷ []) (textLines (drop (end + 1) text))));
+          bytes = written ∙ rw (buffer-more, p .bytes, p .length-used);
+          length-used = left .0 ∙ rw (used-more, p .bytes, p .length-used);
+          known = rw written (left .1);
+          refusals = answered ∙ ap (λ (l : List Filed). told l r₀) (sym answers);
+          count = rw answers (simp length-append (omega (arith, p .count)));
+        }
 
--- the used length and the next number after an answer
-module _ (s c : List ℕ) (used next : ℕ) (a : Filed) (answered : a ≡ fileAnswer s used c) (number : next ≡ 1 + used / lineLength) where
-  pub granted-next : (used′ next′ : ℕ) → a .refusal ≡ 0 → used′ ≡ a .used → next′ ≡ next + 1
-      → (used′ ≡ usedAfter s used c) × (next′ ≡ 1 + used′ / lineLength)
-  granted-next used′ next′ h moved more =
-      let g = answer-used s c used .0 (ap (λ (f : Filed). f .refusal) (sym answered) ∙ h) in
-      let e : used′ ≡ used + lineLength = moved ∙ ap (λ (f : Filed). f .used) answered ∙ g .0 ∙ g .1 in
-      (e ∙ sym (g .1), simp (e, line-121) (omega (arith, rw line-121 at number)))
-
-  pub refused-next : (used′ next′ : ℕ) → (a .refusal ≡ 0 → ⊥) → used′ ≡ used → next′ ≡ next
-      → (used′ ≡ usedAfter s used c) × (next′ ≡ 1 + used′ / lineLength)
-  refused-next used′ next′ h stays same = (
-    stays ∙ sym (answer-used s c used .1 (λ e. h (ap (λ (f : Filed). f .refusal) answered ∙ e))),
-    same ∙ number ∙ ap (λ (n : ℕ). 1 + n / lineLength) (sym stays),
-  )
+-- a register filled from nothing keeps the list claim
+pub filed-all : (s text r₀ after r : List ℕ) (a : FiledLines)
+    → (a ≡ filedLines s 0 (textLines text))
+    × (after ≡ bufferOf s 0 (textLines text))
+    × (r ≡ told (answersOf s 0 (textLines text)) r₀)
+    → FiledAll s text r₀ after r (a .used)
+unfolding filedLines
+filed-all s text r₀ after r a f = record {
+  claim = rw (f .0, f .1) (list-claim s (textLines text));
+  given = f .2;
+}
 
 -- the used length of a filing that is granted is inside the register: were it not, one of the refusals would apply
 pub filed-inside : (s : List ℕ) (used : ℕ) (c : List ℕ) → fileAnswer s used c .refusal ≡ 0

@@ -1,7 +1,7 @@
 -- Finding from the last line down: the lines before a place and the line there make one line more, and the last line that
 -- passes a test is that one, or the last before it. Assumes nothing.
 use Prim.Native.Nat.{ℕ, zero, suc, _+_, _-_, _*_, _/_, _≤_, _<_}
-use mathlib.Core.Bool.{Bool, true, false, cond, _||_, or-true, or-false}
+use mathlib.Core.Bool.{Bool, true, false, cond, _||_, or-true, or-false, true≢false}
 use mathlib.Core.List.{List, [], _∷_, _++_}
 use mathlib.Core.Path.{_≡_, refl, sym, _∙_, ap}
 use native.Mathlib.Nat.{mul-suc, mul-zero, add-comm}
@@ -9,14 +9,16 @@ use native.Mathlib.Omega.{arith}
 use lib.Dec.{eqb}
 use lib.ListN.{length, take, drop}
 use lib.Seq.{drop-drop}
-use borrow.Author.Tests.{eq-eqb, ne-eqb}
+use borrow.Author.Tests.{eqb-true, eq-eqb, ne-eqb}
 use Rattle.split.specs.Frame.{any, numberAt}
 use Rattle.split.proofs.ListLaws.{any-snoc}
 use Rattle.register.specs.declared.answers.Checked.{Checked}
-use Rattle.register.specs.Line.{lineLength}
+use Rattle.register.specs.declared.answers.Located.{Located}
+use Rattle.register.specs.Line.{fieldWidths, textLength, lineLength}
 use Rattle.register.specs.Check.{linesOf, checkOf}
-use Rattle.register.specs.Find.{lastWhere, findRefusal, findLine}
+use Rattle.register.specs.Find.{lastWhere, lastPlace, findRefusal, findLine, usedLines, locate}
 use Rattle.register.specs.Places.{hasField, LastAt}
+use Rattle.register.proofs.AnyLaws.{neither}
 use Rattle.register.proofs.CheckingLaws.{line-length-is, lineAt, field-at, used-sound, check-used}
 
 -- one line more at the end
@@ -46,9 +48,32 @@ last-snoc f (m ∷ ls) l = simp (any-snoc f ls l, last-snoc f ls l) (go (f l) (a
     go false true = refl
     go false false = refl
 
+place-snoc : (f : List ℕ → Bool) (ls : List (List ℕ)) (l : List ℕ)
+    → lastPlace f (ls ++ (l ∷ [])) ≡ cond (f l) (length ls) (lastPlace f ls)
+unfolding lastPlace
+place-snoc f [] l = go (f l)
+  where
+    go : (b : Bool) → _≡_ {A = ℕ} 0 (cond b 0 0)
+    go true = refl
+    go false = refl
+place-snoc f (m ∷ ls) l = simp (any-snoc f ls l, place-snoc f ls l) (go (f l) (any f ls))
+  where
+    go : (b a : Bool) → cond (a || b) (suc (cond b (length ls) (lastPlace f ls))) 0
+        ≡ cond b (suc (length ls)) (cond a (suc (lastPlace f ls)) 0)
+    go true true = refl
+    go true false = refl
+    go false true = refl
+    go false false = refl
+
+lines-count : (n : ℕ) (s : List ℕ) → length (linesOf n s) ≡ n
+unfolding linesOf
+lines-count zero s = refl
+lines-count (suc n) s = ap suc (lines-count n (drop lineLength s))
+
 -- what n lines answer, the first i of them answer
 pub record Same (f : List ℕ → Bool) (s : List ℕ) (n i : ℕ) : Type 0 where
   pub within : i ≤ n
+  pub place : lastPlace f (linesOf n s) ≡ lastPlace f (linesOf i s)
   pub line : lastWhere f (linesOf n s) ≡ lastWhere f (linesOf i s)
   pub some : any f (linesOf n s) ≡ any f (linesOf i s)
 
@@ -65,6 +90,7 @@ module _ (f : List ℕ → Bool) (s : List ℕ) (n i : ℕ) (same : Same f s n i
     found = λ _. (
       same .line ∙ simp (parts h, last-snoc, t),
       same .some ∙ simp (parts h, any-snoc f (linesOf (i - 1) s) (lineAt s (lineLength * (i - 1))), t, or-true),
+      same .place ∙ simp (parts h, place-snoc, t, lines-count),
     );
     absent = λ a. absurd (omega arith);
   }
@@ -72,6 +98,7 @@ module _ (f : List ℕ → Bool) (s : List ℕ) (n i : ℕ) (same : Same f s n i
   same-miss : 0 < i → f (lineAt s (lineLength * (i - 1))) ≡ false → Same f s n (i - 1)
   same-miss h t = record {
     within = omega arith;
+    place = same .place ∙ simp (parts h, place-snoc, t);
     line = same .line ∙ simp (parts h, last-snoc, t);
     some = same .some ∙ simp (parts h, any-snoc f (linesOf (i - 1) s) (lineAt s (lineLength * (i - 1))), t, or-false);
   }
@@ -103,10 +130,82 @@ module _ (s : List ℕ) (n i offset value : ℕ)
   field-miss e =
       same-miss (hasField offset value) s n i same h (ne-eqb _ value (λ z. e (sym (field-line s (i - 1) offset low) ∙ z)))
 
--- both answers of a find
-pub record Answer (f : List ℕ → Bool) (s : List ℕ) (used refusal : ℕ) (line : List ℕ) : Type 0 where
-  pub refused : findRefusal f s used ≡ refusal
-  pub given : findLine f s used ≡ line
+-- what a find answers, by the refusal and by the place of the line
+refused-where : (f : List ℕ → Bool) (s : List ℕ) (used x : ℕ) → findRefusal f s used ≡ x → (x ≡ 0 → ⊥)
+    → locate f s used ≡ record { refusal = x; offset = 0; length = 0 }
+unfolding locate
+refused-where f s used x e some = simp (e, ne-eqb x 0 some)
+
+-- the refusal by its own definition
+pub located-refusal : (f : List ℕ → Bool) (s : List ℕ) (used : ℕ) → locate f s used .refusal ≡ findRefusal f s used
+unfolding locate
+located-refusal f s used = go (eqb (findRefusal f s used) 0) refl
+  where
+    go : (b : Bool) → eqb (findRefusal f s used) 0 ≡ b → locate f s used .refusal ≡ findRefusal f s used
+    go true e = simp e (sym (eqb-true (findRefusal f s used) 0 e))
+    go false e = simp e
+
+-- the last line that passes a test is the one at its place
+last-line : (f : List ℕ → Bool) (n : ℕ) (s : List ℕ) → any f (linesOf n s) ≡ true
+    → (lastPlace f (linesOf n s) < n) × (lastWhere f (linesOf n s) ≡ lineAt s (lineLength * lastPlace f (linesOf n s)))
+unfolding linesOf lastWhere lastPlace
+last-line f zero s e = absurd (true≢false (sym e))
+last-line f (suc n) s e = go (any f (linesOf n (drop lineLength s))) refl (last-line f n (drop lineLength s))
+  where
+    go : (b : Bool) → any f (linesOf n (drop lineLength s)) ≡ b
+        → (any f (linesOf n (drop lineLength s)) ≡ true
+        → (lastPlace f (linesOf n (drop lineLength s)) < n)
+        × (lastWhere f (linesOf n (drop lineLength s)) ≡ lineAt (drop lineLength s) (lineLength * lastPlace f (linesOf n (drop lineLength s)))))
+        → (lastPlace f (linesOf (suc n) s) < suc n) × (lastWhere f (linesOf (suc n) s) ≡ lineAt s (lineLength * lastPlace f (linesOf (suc n) s)))
+    go true a later =
+        simp a
+        (omega (arith, later a .0), later a .1 ∙ ap (take lineLength) (drop-line (lastPlace f (linesOf n (drop lineLength s))) s))
+    go false a later =
+        let here : f (take lineLength s) ≡ true = sym (or-false (f (take lineLength s))) ∙ simp a at e in
+        simp (a, here, mul-zero) (omega arith, refl)
+
+last-none : (f : List ℕ → Bool) (ls : List (List ℕ)) → any f ls ≡ false → lastWhere f ls ≡ []
+unfolding lastWhere
+last-none f [] e = refl
+last-none f (l ∷ ls) e =
+    let n = neither (f l) (any f ls) e in
+    simp (n .0, n .1)
+
+-- the place of one of the lines of a used part lies in it
+last-inside : (buffer used place : ℕ) → used ≤ buffer → place < used / lineLength → lineLength * place + lineLength ≤ buffer
+unfolding lineLength textLength fieldWidths
+last-inside buffer used place h g = omega arith
+
+-- so the bytes where a line is found are the line found, within the register; none under a refusal
+pub record Within (f : List ℕ → Bool) (s : List ℕ) (used : ℕ) (at : Located) : Type 0 where
+  pub inside : at .offset + at .length ≤ length s
+  pub line : take (at .length) (drop (at .offset) s) ≡ findLine f s used
+
+located-line : (f : List ℕ → Bool) (s : List ℕ) (used : ℕ) → Within f s used (locate f s used)
+unfolding locate findRefusal findLine
+located-line f s used = go (eqb (checkOf s used .refusal) 0) refl (any f (usedLines s used)) refl
+  where
+    go : (b : Bool) → eqb (checkOf s used .refusal) 0 ≡ b → (a : Bool) → any f (usedLines s used) ≡ a
+        → Within f s used (locate f s used)
+    go false bad a e = record { inside = simp bad (omega arith); line = simp bad }
+    go true good false e = record { inside = simp (good, e) (omega arith); line = simp (good, e) (sym (last-none f (usedLines s used) e)) }
+    go true good true e =
+        let last = last-line f (used / lineLength) s e in
+        let fits = used-sound (length s) used (check-used s used (eqb-true (checkOf s used .refusal) 0 good)) in
+        record {
+          inside = simp (good, e) (last-inside (length s) used (lastPlace f (usedLines s used)) (fits .0) (last .0));
+          line = simp (good, e) (sym (last .1));
+        }
+
+pub located-within : (f : List ℕ → Bool) (s : List ℕ) (used : ℕ) (at : Located) → at ≡ locate f s used → Within f s used at
+located-within f s used at e = rw e (located-line f s used)
+
+-- the part of the register from its start to its end
+pub part-line : (f : List ℕ → Bool) (s : List ℕ) (used : ℕ) (at : Located) → Within f s used at
+    → take (at .offset + at .length - at .offset) (drop (at .offset) s) ≡ findLine f s used
+part-line f s used at w =
+    let e : at .offset + at .length - at .offset ≡ at .length = omega arith in
+    ap (λ (n : ℕ). take n (drop (at .offset) s)) e ∙ w .line
 
 -- by what the check gave, and by the place of the last line that passes the test
 module _ (s : List ℕ) (used : ℕ) (checked : Checked) (e : checked ≡ checkOf s used) where
@@ -114,11 +213,11 @@ module _ (s : List ℕ) (used : ℕ) (checked : Checked) (e : checked ≡ checkO
   same-check : checkOf s used .refusal ≡ checked .refusal
   same-check = ap (λ (r : Checked). r .refusal) (sym e)
 
-  pub unchecked : (f : List ℕ → Bool) → (checked .refusal ≡ 0 → ⊥) → Answer f s used 11 []
-  unfolding findRefusal findLine
+  pub unchecked : (f : List ℕ → Bool) → (checked .refusal ≡ 0 → ⊥)
+      → locate f s used ≡ record { refusal = 11; offset = 0; length = 0 }
+  unfolding findRefusal
   unchecked f h =
-      let t : eqb (checkOf s used .refusal) 0 ≡ false = ne-eqb (checkOf s used .refusal) 0 (λ z. h (sym same-check ∙ z)) in
-      record { refused = simp t; given = simp t }
+      refused-where f s used 11 (simp (ne-eqb (checkOf s used .refusal) 0 (λ z. h (sym same-check ∙ z)))) (λ z. omega arith)
 
   module _ (good : checked .refusal ≡ 0) where
     pub inside : used ≤ length s
@@ -133,20 +232,13 @@ module _ (s : List ℕ) (used : ℕ) (checked : Checked) (e : checked ≡ checkO
     count : used / lineLength ≡ used / 121
     count = ap (λ (w : ℕ). used / w) line-length-is
 
-    pub absent : (f : List ℕ → Bool) (place : ℕ) → LastAt f s (used / 121) place → used / 121 ≤ place → Answer f s used 14 []
-    unfolding findRefusal findLine
-    absent f place last h =
-        record { refused = simp (test, count, last .absent h .1); given = simp (test, count, last .absent h .0) }
+    pub nowhere : (f : List ℕ → Bool) (place : ℕ) → LastAt f s (used / 121) place → used / 121 ≤ place
+        → locate f s used ≡ record { refusal = 14; offset = 0; length = 0 }
+    unfolding findRefusal
+    nowhere f place last h = refused-where f s used 14 (simp (test, count, last .absent h .1)) (λ z. omega arith)
 
-    pub found : (f : List ℕ → Bool) (place : ℕ) → LastAt f s (used / 121) place → place < used / 121
-        → Answer f s used 0 (take (121 * place + 121 - 121 * place) (drop (121 * place) s))
-    unfolding findRefusal findLine
-    found f place last h =
-        let one : 121 ≡ 121 * place + 121 - 121 * place = omega arith in
-        record {
-          refused = simp (test, count, last .found h .1);
-          given =
-              simp (test, count) (last .found h .0)
-              ∙ ap (λ (w : ℕ). take w (drop (w * place) s)) line-length-is
-              ∙ ap (λ (w : ℕ). take w (drop (121 * place) s)) one;
-        }
+    pub somewhere : (f : List ℕ → Bool) (place : ℕ) → LastAt f s (used / 121) place → place < used / 121
+        → locate f s used ≡ record { refusal = 0; offset = 121 * place; length = 121 }
+    unfolding locate findRefusal
+    somewhere f place last h =
+        simp (test, last .found h .1, last .found h .2, line-length-is)

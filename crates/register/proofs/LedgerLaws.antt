@@ -37,7 +37,7 @@ lines-at n (c ∷ cs) zero h = simp add-zero
 lines-at n (c ∷ cs) (suc k) h = lines-at (n + 1) cs k (omega arith) ∙ simp (add-one, add-suc, suc-add)
 
 -- after a line the next number is the expected one
-next-right : (n : ℕ) → wrongNumber (n + 1) (n + 1) ≡ false
+pub next-right : (n : ℕ) → wrongNumber (n + 1) (n + 1) ≡ false
 unfolding wrongNumber
 next-right n = simp (ne-eqb (n + 1) 0 (omega arith), eq-eqb (n + 1) (n + 1) refl)
 
@@ -60,7 +60,7 @@ next-more n [] l = refl
 next-more n (m ∷ ls) l = next-more (numberIn m + 1) ls l
 
 -- where that line has the next number itself
-next-line : (n : ℕ) (ls : List (List ℕ)) (c : List ℕ) → nextNumber n ls < 4294967296
+pub next-line : (n : ℕ) (ls : List (List ℕ)) (c : List ℕ) → nextNumber n ls < 4294967296
     → nextNumber n (ls ++ (lineOf (nextNumber n ls) (quoteOf c) ∷ [])) ≡ nextNumber n ls + 1
 next-line n ls c low =
     next-more n ls (lineOf (nextNumber n ls) (quoteOf c))

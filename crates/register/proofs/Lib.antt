@@ -9,4 +9,5 @@ pub mod CheckingLaws
 pub mod FindingLaws
 pub mod ListClaims
 pub mod WritingLaws
+pub mod SoundLaws
 pub mod FilingLaws

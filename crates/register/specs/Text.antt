@@ -4,8 +4,10 @@ use mathlib.Core.Bool.{Bool, true, false, cond}
 use mathlib.Core.List.{List, [], _∷_, _++_}
 use mathlib.Core.Path.{_≡_}
 use lib.Dec.{eqb}
+use lib.ListN.{length}
 use Rattle.register.specs.declared.answers.Filed.{Filed}
-use Rattle.register.specs.File.{answersOf}
+use Rattle.register.specs.declared.answers.FiledLines.{FiledLines}
+use Rattle.register.specs.File.{answersOf, usedOf}
 use Rattle.register.specs.Ledger.{ListClaim}
 
 abbrev pub isEmpty : List ℕ → Bool
@@ -26,6 +28,10 @@ unfoldable pub told : List Filed → List ℕ → List ℕ
 told [] old = old
 told (a ∷ answers) [] = []
 told (a ∷ answers) (o ∷ old) = a .refusal ∷ told answers old
+
+-- what filing lines one after the other answers, from any register and used length
+unfoldable pub filedLines : List ℕ → ℕ → List (List ℕ) → FiledLines
+filedLines s used cs = record { used = usedOf s used cs; lines = length cs }
 
 -- What filing every line of a text promises: the whole claim of demand 3 about the list of its lines, of the very bytes
 -- and the used length that it leaves; and the refusals it gave.

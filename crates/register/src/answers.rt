@@ -9,3 +9,16 @@ pub struct Filed {
     pub refusal: u8,
     pub used: usize,
 }
+
+// What filing the lines of a text answers: the used length from then on, and how many lines there were.
+pub struct FiledLines {
+    pub used: usize,
+    pub lines: usize,
+}
+
+// Where finding finds a line: refusal 0 with its offset and length in the register, or the refusal and zeros.
+pub struct Located {
+    pub refusal: u8,
+    pub offset: usize,
+    pub length: usize,
+}

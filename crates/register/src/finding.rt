@@ -1,13 +1,13 @@
 // Finding a line by its number, and a member's newest line.
+use crate::answers::Located;
 use crate::checking;
 use crate::layout::LINE_LENGTH;
 use crate::layout::MEMBER_AT;
 ghost use mathlib.Core.Path.{_≡_};
 ghost use Prim.Native.Nat.{_+_, _*_, _≤_};
-ghost use lib.ListN.{length, take, drop};
+ghost use lib.ListN.{length};
 ghost use Rattle.register.specs.Line.{lineLength};
-ghost use Rattle.register.specs.Check.{linesOf};
-ghost use Rattle.register.specs.Find.{hasNumber, hasMember, findRefusal, findLine};
+ghost use Rattle.register.specs.Find.{hasNumber, hasMember, findRefusal, findLine, locate};
 ghost use Rattle.register.specs.Places.{hasField, LastAt};
 
 // The place of the last of n lines whose field at an offset is the value; n where there is none.
@@ -25,22 +25,45 @@ fn last_with(register: &[u8], n: usize, offset: usize, value: u32) -> usize
     n
 }
 
-// The same after the check; and where there is none, or 11, the empty part.
-fn found_line<'a>(register: &'a [u8], used: usize, offset: usize, value: u32) -> &'a [u8]
+fn absent(refusal: u8) -> Located
+    ensures { λ r. ⌜ r ≡ record { refusal = refusal; offset = 0; length = 0 } ⌝ }
+{
+    Located {
+        refusal,
+        offset: 0,
+        length: 0,
+    }
+}
+
+// Where the last line with the value is, after the check.
+fn located(register: &[u8], used: usize, offset: usize, value: u32) -> Located
     requires { ⌜ offset + 8 ≤ lineLength ⌝ }
-    ensures { λ r. ⌜ now r ≡ findLine (hasField offset value) (now (register .entry)) used ⌝ }
+    ensures { λ r. ⌜ r ≡ locate (hasField offset value) (now (register .entry)) used ⌝ }
 {
     let checked = checking::check(register, used);
     if checked.refusal != 0 {
-        return &register[0..0];
+        return absent(11);
     }
     let n = used / LINE_LENGTH;
     let place = last_with(register, n, offset, value);
     if n <= place {
-        return &register[0..0];
+        return absent(14);
     }
-    let start = LINE_LENGTH * place;
-    let end = start + LINE_LENGTH;
+    Located {
+        refusal: 0,
+        offset: LINE_LENGTH * place,
+        length: LINE_LENGTH,
+    }
+}
+
+// The line there, as its own bytes of the register; empty under a refusal.
+fn found_line<'a>(register: &'a [u8], used: usize, offset: usize, value: u32) -> &'a [u8]
+    requires { ⌜ offset + 8 ≤ lineLength ⌝ }
+    ensures { λ r. ⌜ now r ≡ findLine (hasField offset value) (now (register .entry)) used ⌝ }
+{
+    let at = located(register, used, offset, value);
+    let start = at.offset;
+    let end = start + at.length;
     &register[start..end]
 }
 
@@ -48,15 +71,8 @@ fn found_refusal(register: &[u8], used: usize, offset: usize, value: u32) -> u8
     requires { ⌜ offset + 8 ≤ lineLength ⌝ }
     ensures { λ r. ⌜ r ≡ findRefusal (hasField offset value) (now (register .entry)) used ⌝ }
 {
-    let checked = checking::check(register, used);
-    if checked.refusal != 0 {
-        return 11;
-    }
-    let n = used / LINE_LENGTH;
-    if n <= last_with(register, n, offset, value) {
-        return 14;
-    }
-    0
+    let at = located(register, used, offset, value);
+    at.refusal
 }
 
 // The line with a number, as its own bytes of the register; empty under a refusal.
@@ -73,6 +89,13 @@ pub fn find_number_refusal(register: &[u8], used: usize, number: u32) -> u8
     found_refusal(register, used, 0, number)
 }
 
+// Both answers of the same call as numbers: the refusal, and where the line's bytes are.
+pub fn locate_number(register: &[u8], used: usize, number: u32) -> Located
+    ensures { λ r. ⌜ r ≡ locate (hasNumber number) (now (register .entry)) used ⌝ }
+{
+    located(register, used, 0, number)
+}
+
 // A member's newest line, as its own bytes of the register; empty under a refusal.
 pub fn find_member<'a>(register: &'a [u8], used: usize, member: u32) -> &'a [u8]
     ensures { λ r. ⌜ now r ≡ findLine (hasMember member) (now (register .entry)) used ⌝ }
@@ -85,4 +108,11 @@ pub fn find_member_refusal(register: &[u8], used: usize, member: u32) -> u8
     ensures { λ r. ⌜ r ≡ findRefusal (hasMember member) (now (register .entry)) used ⌝ }
 {
     found_refusal(register, used, MEMBER_AT, member)
+}
+
+// Both answers of the same call as numbers: the refusal, and where the line's bytes are.
+pub fn locate_member(register: &[u8], used: usize, member: u32) -> Located
+    ensures { λ r. ⌜ r ≡ locate (hasMember member) (now (register .entry)) used ⌝ }
+{
+    located(register, used, MEMBER_AT, member)
 }

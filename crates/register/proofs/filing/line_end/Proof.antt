@@ -1,12 +1,12 @@
--- `line_end` scans to the newline: no character passed is one.
+-- `line_end` passes spans without a newline: no character passed is one, and the first from there on is the line's end.
 use Prim.Native.Nat.{ℕ, _≤_, _<_, _-_}
 use mathlib.Core.Bool.{false}
-use mathlib.Core.Path.{_≡_}
+use mathlib.Core.Path.{_≡_, sym, _∙_}
 use native.Mathlib.Omega.{arith}
 use lib.Dec.{eqb}
 use lib.ListN.{length, getD}
 use borrow.Author.Needs.{needs}
-use Rattle.register.proofs.FilingLaws.{unbroken-more}
+use Rattle.register.proofs.FilingLaws.{unbroken-span, end-further}
 use Rattle.register.proofs.filing.line_end.Statement.{statement}
 use Rattle.register.proofs.filing.line_end.Tie as tie
 
@@ -20,15 +20,27 @@ loop-holds : tie.Need-loop-holds Inv-loop μ-loop
 loop-holds c = (omega arith, omega arith, λ j h g. absurd (omega arith))
 
 returns : tie.Need-returns Inv-loop μ-loop
-returns c = let l = c .before .before .before .loop in record { after = search needs; inside = search needs; unbroken = l .inv .2; ended = λ h. c .if1 .taken }
+returns c =
+    let l = c .before .before .before .before .before .loop in
+    end-further _ _ (l .end) _ (l .inv .0) (l .inv .2) (c .newline-from .ensures)
 
 loop-again : tie.Need-loop-again Inv-loop μ-loop
-loop-again c = let l = c .before .before .before .loop in (search needs, search needs, unbroken-more (c .before .before .before .before .args .text .now) _ (l .end) (l .inv .2) (c .if1 .left))
+loop-again c =
+    let l = c .before .before .before .before .loop in
+    let t = c .before .before .before .loop-test .taken in (
+      omega arith,
+      omega (arith, t),
+      unbroken-span (c .before .before .before .before .before .before .args .text .now) _ (l .end) 16 (omega (arith, t)) (l .inv .2)
+          (sym (c .before .has-newline .ensures) ∙ c .if1 .left),
+    )
 
 returns-2 : tie.Need-returns-2 Inv-loop μ-loop
-returns-2 c = let l = c .before .loop in record { after = search needs; inside = search needs; unbroken = l .inv .2; ended = λ h. absurd (omega arith) }
+returns-2 c =
+    let l = c .before .before .loop in
+    end-further _ _ (l .end) _ (l .inv .0) (l .inv .2) (c .newline-from2 .ensures)
 
 pub line-end-spec : {M : Type 1} → statement M
 line-end-spec =
     tie.close
-    (tie.spec Inv-loop μ-loop loop-holds (search needs) returns (search needs) (search needs) loop-again returns-2)
+    (tie.spec Inv-loop μ-loop loop-holds (search needs) (search needs) (search needs) (search needs) (search needs)
+    (search needs) (search needs) returns (search needs) (search needs) loop-again (search needs) returns-2)

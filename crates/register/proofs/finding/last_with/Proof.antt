@@ -15,7 +15,7 @@ abbrev μ-loop : tie.MeasureT-loop
 μ-loop register n offset value i₀ i = i
 
 loop-holds : tie.Need-loop-holds Inv-loop μ-loop
-loop-holds c = record { within = omega arith; line = refl; some = refl }
+loop-holds c = record { within = omega arith; place = refl; line = refl; some = refl }
 
 mul-number-at : tie.Need-mul-number-at Inv-loop μ-loop
 unfolding lineLength textLength fieldWidths

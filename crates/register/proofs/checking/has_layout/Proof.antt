@@ -1,0 +1,27 @@
+-- `has_layout` tests the digits and the newline's place, each as the contract has it.
+use mathlib.Core.Bool.{Bool, not, _&&_}
+use mathlib.Core.Path.{ap}
+use native.Mathlib.Omega.{arith}
+use lib.Dec.{eqb}
+use lib.ListN.{getD}
+use borrow.Author.Needs.{needs}
+use Rattle.register.specs.Line.{fieldWidths, textLength, lineLength}
+use Rattle.register.proofs.CheckingLaws.{line-length-is}
+use Rattle.register.proofs.checking.has_layout.Statement.{statement}
+use Rattle.register.proofs.checking.has_layout.Tie as tie
+
+part-has-bad-character-end : tie.Need-part-has-bad-character-end
+part-has-bad-character-end c = omega (arith, line-length-is)
+
+shared-slice-read-result : tie.Need-shared-slice-read-result
+shared-slice-read-result c = omega (arith, line-length-is)
+
+returns : tie.Need-returns
+unfolding textLength fieldWidths
+returns c =
+    ap (λ (b : Bool). not b && eqb (getD (c .before .before .before .before .args .line .now) 120 0) 10)
+    (c .before .has-bad-character .ensures)
+
+pub has-layout-spec : {M : Type 1} → statement M
+has-layout-spec =
+    tie.close (tie.spec (search needs) (search needs) part-has-bad-character-end (search needs) shared-slice-read-result returns)

@@ -1,0 +1,26 @@
+-- `file_known` is the definitions `fileAnswer` and `bytesAfter`: by the case's refusal, else by what `enter` ensures.
+use mathlib.Core.Path.{sym, _∙_, ap}
+use lib.ListN.{length}
+use borrow.Author.Needs.{needs}
+use Rattle.split.specs.declared.shares.Quote.{Quote}
+use Rattle.split.proofs.QuoteLaws.{quote-fits}
+use Rattle.register.proofs.FilingLaws.{quote-says, case-refused, quote-whole}
+use Rattle.register.proofs.filing.file_known.Statement.{statement}
+use Rattle.register.proofs.filing.file_known.Tie as tie
+
+returns : tie.Need-returns
+returns c =
+    let p = case-refused _ _ _ _ (quote-says _ _ (c .before .before .before .quote .ensures)) (c .before .if1 .taken) in
+    (c .refused .ensures ∙ p .0, p .1)
+
+enter-requires : tie.Need-enter-requires
+enter-requires c κs = (c .before .before .before .before .before .before .pre, quote-whole _ _ (c .before .before .before .quote .ensures))
+
+returns-2 : tie.Need-returns-2
+returns-2 c =
+    let e = c .before .before .before .before in
+    c .before .before .enter .ensures _ (sym (quote-says _ _ (e .before .before .quote .ensures)) ∙ e .if1 .left)
+    (e .before .before .quote .ensures)
+
+pub file-known-spec : {M : Type 1} → statement M
+file-known-spec = tie.close (tie.spec (search needs) (search needs) returns enter-requires (search needs) returns-2)

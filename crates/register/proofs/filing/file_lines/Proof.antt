@@ -1,0 +1,72 @@
+-- `file_lines` keeps that the lines passed have been filed (`Passed`), so that at the text's end all are.
+use Prim.Native.Nat.{_≤_, _-_, _+_}
+use mathlib.Core.Path.{_≡_, refl, ap}
+use mathlib.Core.Logic.{⊎-elim}
+use native.Mathlib.Omega.{arith}
+use lib.ListN.{length}
+use borrow.Author.Needs.{needs}
+use Rattle.register.specs.declared.answers.Filed.{Filed}
+use Rattle.register.specs.declared.filing.Opened.{Opened}
+use Rattle.register.proofs.FilingLaws.{Passed, passed-none, passed-size, passed-all, passed-next, told-next, told-past, granted-low, granted-next, refused-next}
+use Rattle.register.proofs.filing.file_lines.Statement.{statement}
+use Rattle.register.proofs.filing.file_lines.Tie as tie
+
+abbrev Inv-loop : tie.InvT-loop
+Inv-loop register₀ used lines refusals₀ known₀ filled₀ count₀ at₀ register refusals known filled count at =
+    (at ≤ length lines + 1) × (count ≤ at) × (length register ≡ length register₀)
+    × Passed register₀ used lines refusals₀ register refusals (known .sound) (known .next) filled count at
+
+abbrev μ-loop : tie.MeasureT-loop
+μ-loop register₀ used lines refusals₀ known₀ filled₀ count₀ at₀ register refusals known filled count at = length lines - at
+
+loop-holds : tie.Need-loop-holds Inv-loop μ-loop
+loop-holds c = (omega arith, omega arith, refl, passed-none _ _ _ _ _ _ (c .inspect .ensures))
+
+file-known-requires : tie.Need-file-known-requires Inv-loop μ-loop
+file-known-requires c κs = c .before .before .before .before .loop .inv .3 .known
+
+add-known : tie.Need-add-known Inv-loop μ-loop
+add-known c =
+    let l = c .before .before .before .before .before .before .before .before .before .before .before .loop in
+    let filed = c .before .before .before .before .before .before .file-known in
+    omega (arith, granted-low _ _ _ _ _ (l .inv .3 .known) (filed .result) (filed .ensures .0) (c .before .if2 .taken))
+
+loop-again : tie.Need-loop-again Inv-loop μ-loop
+loop-again c =
+    let l = c .before .before .before .before .before .before .before .before .before .before .loop in
+    let filed = c .before .before .before .before .before .file-known in
+    let cut = c .before .before .before .before .before .before .before .before .line-end in
+    let p = l .inv .3 in (
+      search needs,
+      omega (arith, cut .ensures .after),
+      search needs,
+      passed-next p (cut .result) (c .before .before .before .before .before .before .before .before .before .loop-test .taken) (cut .ensures) _ _ _ _ _ _ (filed .ensures .1)
+          (⊎-elim
+          (λ w.
+          granted-next _ _ _ _ _ (p .known) (filed .result) (filed .ensures .0) _ _ _ (w .0 .taken) (w .3)
+          (ap (λ (k : Opened). k .next) (w .2)) (ap (λ (k : Opened). k .sound) (w .2)))
+          (λ w.
+          refused-next _ _ _ _ _ (p .known) (filed .result) (filed .ensures .0) _ _ _ (w .0 .left) (w .2)
+          (ap (λ (k : Opened). k .next) (w .1)) (ap (λ (k : Opened). k .sound) (w .1)))
+          (c .if2 .came))
+          (⊎-elim
+          (λ w.
+          told-next _ _ _ (p .refusals) _ _ _ _ (p .count) (ap (λ (a : Filed). a .refusal) (filed .ensures .0)) (w .0 .taken)
+          (w .1))
+          (λ w. told-past _ _ _ (p .refusals) _ _ _ (p .count) (w .0 .left) (w .1))
+          (c .before .before .if1 .came))
+          refl,
+    )
+
+same-length-2 : tie.Need-same-length-2 Inv-loop μ-loop
+same-length-2 c = passed-size (c .before .loop .inv .3)
+
+returns : tie.Need-returns Inv-loop μ-loop
+returns c = passed-all (c .before .loop .inv .3) (c .loop-test .left)
+
+pub file-lines-spec : {M : Type 1} → statement M
+file-lines-spec =
+    tie.close
+    (tie.spec Inv-loop μ-loop (search needs) loop-holds (search needs) (search needs) (search needs) (search needs)
+    file-known-requires (search needs) add-known (search needs) (search needs) (search needs) loop-again
+    (search needs) same-length-2 returns)
