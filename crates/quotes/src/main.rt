@@ -2,6 +2,7 @@
 // R and the refusal as two decimal digits.
 use libc::STDIN_FILENO;
 use libc::STDOUT_FILENO;
+use register::LINE_LENGTH;
 ghost use Prim.Native.Nat.{_≤_};
 ghost use mathlib.Core.Path.{_≡_};
 ghost use lib.ListN.{length};
@@ -10,8 +11,8 @@ ghost use Rattle.quotes.specs.Bounds.{InBounds};
 // One character more than the longest case line has: a longer line is refused by its characters and its length alone.
 const KEPT: usize = 203;
 
-// Where a run stands: the register's used length, how many characters of the present line are kept, how many bytes of
-// output wait to be written, whether a write failed, and whether the input has ended.
+// Where a run stands: the register's used length, how many characters of a line without its end are kept at the input's
+// start, how many bytes of output wait to be written, whether a write failed, and whether the input has ended.
 struct Progress {
     pub used: usize,
     pub kept: usize,
@@ -20,29 +21,13 @@ struct Progress {
     pub ended: bool,
 }
 
-// Keeps a character of the present line. Past the room for it only a bad character changes what is kept, by taking the
-// first place: the line is then refused with 1 as the whole line is, and else with 2.
-fn keep(line: &mut [u8], kept: usize, character: u8) -> usize
-    requires { ⌜ (length (now line) ≡ 203) × (kept ≤ 203) ⌝ }
-    ensures { λ r. ⌜ r ≤ 203 ⌝ }
+// Copies a text over another of its length.
+fn copy(from: &[u8], to: &mut [u8])
+    requires { ⌜ length (now from) ≡ length (now to) ⌝ }
 {
-    if kept < KEPT {
-        line[kept] = character;
-        return kept + 1;
-    }
-    if split::hex_value(character) == 16 {
-        line[0] = character;
-    }
-    kept
-}
-
-// Copies as much of a text as there is room for.
-fn copy(from: &[u8], to: &mut [u8]) {
     let mut i = 0;
     while i < from.len() {
-        if i < to.len() {
-            to[i] = from[i];
-        }
+        to[i] = from[i];
         i += 1;
     }
 }
@@ -78,83 +63,149 @@ fn say(text: &[u8], output: &mut [u8], progress: Progress) -> Progress
     queue(text, output, progress)
 }
 
-// Files the line that has ended and prints its register line or its refusal.
-fn end_line(register: &mut [u8], line: &[u8], output: &mut [u8], progress: Progress) -> Progress
-    requires { ⌜ InBounds progress (now line) (now output) ⌝ }
-    ensures { λ r. ⌜ (r .waiting ≤ length (now (output .exit))) × (r .kept ≡ 0) ⌝ }
-{
-    let mut next = progress;
-    let kept = next.kept;
-    let used = next.used;
-    next.kept = 0;
-    let filed = register::file(register, used, &line[..kept]);
-    let refusal = filed.refusal;
-    if refusal == 0 {
-        let end = filed.used;
-        next.used = end;
-        return say(&register[used..end], output, next);
-    }
-    let text = [b'R', b'0' + refusal / 10 % 10, b'0' + refusal % 10, b'\n'];
-    say(&text, output, next)
-}
-
-// Takes the characters of a block of input, of which a newline ends a line.
-fn take_block(
-    input: &[u8],
-    register: &mut [u8],
-    line: &mut [u8],
+// Prints what each filing answered: the next filed line, the first of which is at a place of the register, or the refusal.
+fn say_answers(
+    register: &[u8],
+    from: usize,
+    refusals: &[u8],
     output: &mut [u8],
     progress: Progress,
 ) -> Progress
-    requires { ⌜ InBounds progress (now line) (now output) ⌝ }
-    ensures { λ r. ⌜ InBounds r (now (line .exit)) (now (output .exit)) ⌝ }
+    requires { ⌜ progress .waiting ≤ length (now output) ⌝ }
+    ensures { λ r. ⌜ (r .waiting ≤ length (now (output .exit))) × (r .kept ≡ progress .kept) ⌝ }
 {
     let mut state = progress;
+    let mut at = from;
     let mut i = 0;
-    while i < input.len() {
-        let character = input[i];
-        if character == b'\n' {
-            state = end_line(register, line, output, state);
-        } else {
-            let kept = state.kept;
-            state.kept = keep(line, kept, character);
+    while i < refusals.len() {
+        let refusal = refusals[i];
+        if refusal != 0 {
+            let text = [b'R', b'0' + refusal / 10 % 10, b'0' + refusal % 10, b'\n'];
+            state = say(&text, output, state);
+        } else if at <= register.len() {
+            if LINE_LENGTH <= register.len() - at {
+                state = say(&register[at..at + LINE_LENGTH], output, state);
+                at += LINE_LENGTH;
+            }
         }
         i += 1;
     }
     state
 }
 
-// Reads a block and takes it; what is left to do goes by whether there was one and no write failed.
-fn read_block(
+// Files the lines of a text, if it has any, and prints what each filing answered.
+fn file_text(
+    text: &[u8],
     register: &mut [u8],
-    line: &mut [u8],
+    refusals: &mut [u8],
     output: &mut [u8],
     progress: Progress,
 ) -> Progress
-    requires { ⌜ InBounds progress (now line) (now output) ⌝ }
-    ensures { λ r. ⌜ InBounds r (now (line .exit)) (now (output .exit)) ⌝ }
+    requires { ⌜ progress .waiting ≤ length (now output) ⌝ }
+    ensures { λ r. ⌜ (r .waiting ≤ length (now (output .exit))) × (r .kept ≡ progress .kept) ⌝ }
 {
-    let mut input = io::large_buffer();
-    let got = libc::read(STDIN_FILENO, &mut input);
-    let n = io::count(got, &input);
+    if text.len() == 0 {
+        return progress;
+    }
+    let mut next = progress;
+    let from = next.used;
+    let filed = register::file_lines(register, from, text, refusals);
+    next.used = filed.used;
+    let lines = filed.lines;
+    if refusals.len() < lines {
+        return next;
+    }
+    say_answers(register, from, &refusals[..lines], output, next)
+}
+
+// Where the last line with a newline ends in a text's characters before a place; 0 where there is none.
+fn whole_lines(text: &[u8], before: usize) -> usize
+    requires { ⌜ before ≤ length (now text) ⌝ }
+    ensures { λ r. ⌜ r ≤ before ⌝ }
+{
+    let mut end = before;
+    while 0 < end {
+        if text[end - 1] == b'\n' {
+            return end;
+        }
+        end -= 1;
+    }
+    0
+}
+
+// Keeps the characters from a place on at the input's start. Of more than there is room for, the first are kept, and a
+// bad character among the others takes the first place: so the line is refused with 1 as the whole line is, and else with 2.
+fn keep_rest(input: &mut [u8], from: usize, end: usize) -> usize
+    requires { ⌜ (from ≤ end) × (end ≤ length (now input)) × (1 ≤ length (now input)) ⌝ }
+    ensures { λ r. ⌜ r ≤ 203 ⌝ }
+{
+    let mut kept = 0;
+    while kept < end - from && kept < KEPT {
+        input[kept] = input[from + kept];
+        kept += 1;
+    }
+    if split::has_bad_character(&input[from + kept..end]) {
+        input[0] = 0;
+    }
+    kept
+}
+
+// Takes the input up to an end: its whole lines are filed, and what is left is kept.
+fn take_input(
+    input: &mut [u8],
+    end: usize,
+    register: &mut [u8],
+    refusals: &mut [u8],
+    output: &mut [u8],
+    progress: Progress,
+) -> Progress
+    requires { ⌜ (1 ≤ end) × (end ≤ length (now input)) × (progress .waiting ≤ length (now output)) ⌝ }
+    ensures { λ r. ⌜ InBounds r (now (output .exit)) ⌝ }
+{
+    let whole = whole_lines(input, end);
+    let mut state = file_text(&input[..whole], register, refusals, output, progress);
+    state.kept = keep_rest(input, whole, end);
+    state
+}
+
+// Reads a block behind what is kept and takes it, or notes that the input has ended.
+fn read_block(
+    input: &mut [u8],
+    register: &mut [u8],
+    refusals: &mut [u8],
+    output: &mut [u8],
+    progress: Progress,
+) -> Progress
+    requires { ⌜ (length (now input) ≡ 65536) × InBounds progress (now output) ⌝ }
+    ensures { λ r. ⌜ InBounds r (now (output .exit)) ⌝ }
+{
+    let kept = progress.kept;
+    let got = libc::read(STDIN_FILENO, &mut input[kept..]);
+    let n = io::count(got, &input[kept..]);
     if n == 0 {
         let mut last = progress;
         last.ended = true;
         return last;
     }
-    take_block(&input[..n], register, line, output, progress)
+    take_input(input, kept + n, register, refusals, output, progress)
 }
 
 // Reads and takes blocks until the input ends or a write fails. A proved loop has to end, so it counts its turns down from
 // a number that no run uses up.
-fn take_all(register: &mut [u8], line: &mut [u8], output: &mut [u8], progress: Progress) -> Progress
-    requires { ⌜ InBounds progress (now line) (now output) ⌝ }
-    ensures { λ r. ⌜ InBounds r (now (line .exit)) (now (output .exit)) ⌝ }
+fn take_all(
+    input: &mut [u8],
+    register: &mut [u8],
+    refusals: &mut [u8],
+    output: &mut [u8],
+    progress: Progress,
+) -> Progress
+    requires { ⌜ (length (now input) ≡ 65536) × InBounds progress (now output) ⌝ }
+    ensures { λ r. ⌜ InBounds r (now (output .exit)) ⌝ }
 {
     let mut state = progress;
     let mut turns = u64::MAX;
     while turns > 0 {
-        state = read_block(register, line, output, state);
+        state = read_block(input, register, refusals, output, state);
         if state.failed | state.ended {
             return state;
         }
@@ -163,25 +214,29 @@ fn take_all(register: &mut [u8], line: &mut [u8], output: &mut [u8], progress: P
     state
 }
 
-// A last line needs no newline.
-fn finish(register: &mut [u8], line: &[u8], output: &mut [u8], progress: Progress)
-    requires { ⌜ InBounds progress (now line) (now output) ⌝ }
+// A last line needs no newline. What waits is written out.
+fn finish(
+    input: &[u8],
+    register: &mut [u8],
+    refusals: &mut [u8],
+    output: &mut [u8],
+    progress: Progress,
+)
+    requires { ⌜ (length (now input) ≡ 65536) × InBounds progress (now output) ⌝ }
 {
-    let mut state = progress;
-    if state.failed {
-        return;
+    let kept = progress.kept;
+    let state = file_text(&input[..kept], register, refusals, output, progress);
+    if !state.failed {
+        let waiting = state.waiting;
+        io::write_all(STDOUT_FILENO, &output[..waiting]);
     }
-    if 0 < state.kept {
-        state = end_line(register, line, output, state);
-    }
-    let waiting = state.waiting;
-    io::write_all(STDOUT_FILENO, &output[..waiting]);
 }
 
 fn main() {
+    let mut input = io::large_buffer();
     let mut register = io::large_buffer();
+    let mut refusals = io::large_buffer();
     let mut output = io::large_buffer();
-    let mut line = [0u8; 203];
     let start = Progress {
         used: 0,
         kept: 0,
@@ -189,6 +244,6 @@ fn main() {
         failed: false,
         ended: false,
     };
-    let end = take_all(&mut register, &mut line, &mut output, start);
-    finish(&mut register, &line, &mut output, end);
+    let end = take_all(&mut input, &mut register, &mut refusals, &mut output, start);
+    finish(&input, &mut register, &mut refusals, &mut output, end);
 }

@@ -1,8 +1,7 @@
 -- `copy` stays inside both texts: its place is within the first, and the length of the second stays.
 use Prim.Native.Nat.{_≤_, _-_}
-use mathlib.Core.Path.{_≡_, _∙_, ap}
-use mathlib.Core.Logic.{⊎-elim}
-use lib.ListN.{length, length-set}
+use mathlib.Core.Path.{_≡_}
+use lib.ListN.{length}
 use borrow.Author.Needs.{needs}
 use Rattle.quotes.proofs.copy.Statement.{statement}
 use Rattle.quotes.proofs.copy.Tie as tie
@@ -14,11 +13,7 @@ abbrev μ-loop : tie.MeasureT-loop
 μ-loop from to₀ i₀ to i = length from - i
 
 loop-again : tie.Need-loop-again Inv-loop μ-loop
-loop-again c =
-    let inv = c .before .before .loop .inv in (
-      search needs,
-      ⊎-elim (λ w. ap length (w .2) ∙ simp length-set (inv .1)) (λ w. ap length (w .1) ∙ inv .1) (c .if1 .came),
-    )
+loop-again c = search needs
 
 pub copy-spec : {M : Type 1} → statement M
 copy-spec =

@@ -1,0 +1,35 @@
+-- `keep_rest` stays inside the input, whose length stays: what is kept is no more than there is, nor than 203.
+use Prim.Native.Nat.{_≤_, _<_, _+_, _-_}
+use mathlib.Core.Path.{_≡_}
+use native.Mathlib.Omega.{arith}
+use lib.ListN.{length}
+use borrow.Author.Tests.{ltb-true}
+use borrow.Author.Needs.{needs}
+use Rattle.quotes.proofs.keep_rest.Statement.{statement}
+use Rattle.quotes.proofs.keep_rest.Tie as tie
+
+abbrev Inv-loop : tie.InvT-loop
+Inv-loop input₀ from end kept₀ input kept = (from + kept ≤ end) × (kept ≤ 203) × (length input ≡ length input₀)
+
+abbrev μ-loop : tie.MeasureT-loop
+μ-loop input₀ from end kept₀ input kept = 203 - kept
+
+-- a turn begins with room for one more
+room : (c : tie.After-slice-known2 Inv-loop μ-loop) → c .before .before .before .loop .kept < 203
+room c = ltb-true _ _ (c .before .if1 .taken)
+
+loop-less : tie.Need-loop-less Inv-loop μ-loop
+loop-less c = omega (arith, room c)
+
+loop-again : tie.Need-loop-again Inv-loop μ-loop
+loop-again c = (omega (arith, room c), omega (arith, room c), search needs)
+
+same-length : tie.Need-same-length Inv-loop μ-loop
+same-length c = search needs
+
+pub keep-rest-spec : {M : Type 1} → statement M
+keep-rest-spec =
+    tie.close
+    (tie.spec Inv-loop μ-loop (search needs) (search needs) (search needs) (search needs) (search needs) (search needs)
+    loop-less loop-again (search needs) (search needs) (search needs) (search needs) (search needs) (search needs)
+    same-length (search needs) (search needs) (search needs))
