@@ -1,0 +1,13 @@
+-- `filed_for_c` is the definition `filedForC`, field by field.
+use mathlib.Core.Path.{refl}
+use borrow.Author.Needs.{needs}
+use Rattle.host.specs.Interface.{filedForC}
+use Rattle.host.proofs.filed_for_c.Statement.{statement}
+use Rattle.host.proofs.filed_for_c.Tie as tie
+
+returns : tie.Need-returns
+unfolding filedForC
+returns c = refl
+
+pub filed-for-c-spec : {M : Type 1} → statement M
+filed-for-c-spec = tie.close (tie.spec (search needs) returns)

@@ -1,0 +1,13 @@
+-- `found_for_c` is the definition `foundForC`, field by field.
+use mathlib.Core.Path.{refl}
+use borrow.Author.Needs.{needs}
+use Rattle.host.specs.Interface.{foundForC}
+use Rattle.host.proofs.found_for_c.Statement.{statement}
+use Rattle.host.proofs.found_for_c.Tie as tie
+
+returns : tie.Need-returns
+unfolding foundForC
+returns c = refl
+
+pub found-for-c-spec : {M : Type 1} → statement M
+found-for-c-spec = tie.close (tie.spec (search needs) returns)

@@ -1,0 +1,13 @@
+-- `pension_check` gives what the engine's `check` found, field by field.
+use mathlib.Core.Path.{ap}
+use borrow.Author.Needs.{needs}
+use Rattle.host.specs.Interface.{checkedForC}
+use Rattle.host.proofs.pension_check.Statement.{statement}
+use Rattle.host.proofs.pension_check.Tie as tie
+
+returns : tie.Need-returns
+unfolding checkedForC
+returns c = ap checkedForC (c .before .check .ensures)
+
+pub pension-check-spec : {M : Type 1} → statement M
+pension-check-spec = tie.close (tie.spec (search needs) (search needs) returns)

@@ -1,0 +1,14 @@
+-- `pension_file` gives what the engine's `file` answered, and leaves the bytes that it left.
+use mathlib.Core.Path.{_∙_, ap}
+use borrow.Author.Needs.{needs}
+use Rattle.host.specs.Interface.{filedForC}
+use Rattle.host.proofs.pension_file.Statement.{statement}
+use Rattle.host.proofs.pension_file.Tie as tie
+
+returns : tie.Need-returns
+returns c =
+    let filed = c .before .before .before .file in
+    (c .filed-for-c .ensures ∙ ap filedForC (filed .ensures .0), filed .ensures .1)
+
+pub pension-file-spec : {M : Type 1} → statement M
+pension-file-spec = tie.close (tie.spec (search needs) (search needs) (search needs) returns)

@@ -1,0 +1,18 @@
+-- `pension_quote` gives the engine's quote, field by field; a quote has four shares.
+use mathlib.Core.Path.{_∙_, ap}
+use lib.ListN.{length}
+use borrow.Author.Needs.{needs}
+use Rattle.split.specs.declared.shares.Quote.{Quote}
+use Rattle.split.proofs.QuoteLaws.{quote-fits}
+use Rattle.host.specs.Interface.{quoteForC}
+use Rattle.host.proofs.pension_quote.Statement.{statement}
+use Rattle.host.proofs.pension_quote.Tie as tie
+
+quote-for-c-requires : tie.Need-quote-for-c-requires
+quote-for-c-requires c κs = ap (λ (q : Quote). length (q .shares)) (c .quote .ensures) ∙ quote-fits _ .four
+
+returns : tie.Need-returns
+returns c = c .quote-for-c .ensures ∙ ap quoteForC (c .before .quote .ensures)
+
+pub pension-quote-spec : {M : Type 1} → statement M
+pension-quote-spec = tie.close (tie.spec (search needs) quote-for-c-requires returns)

@@ -1,0 +1,35 @@
+-- The answers of the engine as the C interface gives them: the same numbers, field by field. Assumes nothing.
+use mathlib.Core.List.{map}
+use Rattle.split.specs.declared.shares.Quote.{Quote}
+use Rattle.register.specs.declared.answers.Checked.{Checked}
+use Rattle.register.specs.declared.answers.Filed.{Filed}
+use Rattle.register.specs.declared.answers.FiledLines.{FiledLines}
+use Rattle.register.specs.declared.answers.Located.{Located}
+use Rattle.host.specs.declared.answers.PensionQuote.{PensionQuote}
+use Rattle.host.specs.declared.answers.PensionChecked.{PensionChecked}
+use Rattle.host.specs.declared.answers.PensionFiled.{PensionFiled}
+use Rattle.host.specs.declared.answers.PensionFiledLines.{PensionFiledLines}
+use Rattle.host.specs.declared.answers.PensionFound.{PensionFound}
+
+-- a quote, with the figures of its four shares side by side
+unfoldable pub quoteForC : Quote → PensionQuote
+quoteForC q = record {
+  refusal = q .refusal;
+  member = q .member;
+  total = q .total .0;
+  lump = map (λ s. s .lump .0) (q .shares);
+  remaining = map (λ s. s .remaining .0) (q .shares);
+  second = map (λ s. s .second .0) (q .shares);
+}
+
+unfoldable pub checkedForC : Checked → PensionChecked
+checkedForC k = record { refusal = k .refusal; offset = k .offset }
+
+unfoldable pub filedForC : Filed → PensionFiled
+filedForC f = record { refusal = f .refusal; used = f .used }
+
+unfoldable pub filedLinesForC : FiledLines → PensionFiledLines
+filedLinesForC f = record { used = f .used; lines = f .lines }
+
+unfoldable pub foundForC : Located → PensionFound
+foundForC l = record { refusal = l .refusal; offset = l .offset; length = l .length }

@@ -1,0 +1,139 @@
+// The C interface: each open call of the engine under its C name, with the same promise. A slice passes as a pointer and a
+// length. host/include/pension.h declares these for C.
+mod answers;
+
+use answers::PensionChecked;
+use answers::PensionFiled;
+use answers::PensionFiledLines;
+use answers::PensionFound;
+use answers::PensionQuote;
+use register::answers::Filed;
+use register::answers::Located;
+use split::shares::Quote;
+ghost use mathlib.Core.Path.{_≡_};
+ghost use mathlib.Core.List.{[], _∷_};
+ghost use lib.ListN.{length, take, drop};
+ghost use Rattle.split.specs.Quote.{quoteOf};
+ghost use Rattle.register.specs.Check.{checkOf};
+ghost use Rattle.register.specs.Find.{hasNumber, hasMember, findLine, locate};
+ghost use Rattle.register.specs.File.{fileAnswer, bytesAfter, answersOf, bufferOf};
+ghost use Rattle.register.specs.Text.{textLines, told, filedLines, FiledAll};
+ghost use Rattle.host.specs.Interface.{quoteForC, checkedForC, filedForC, filedLinesForC, foundForC};
+
+// Four amounts in the width that C has them.
+fn amounts(first: u32, second: u32, third: u32, fourth: u32) -> [u64; 4]
+    ensures { λ r. ⌜ r ≡ first ∷ second ∷ third ∷ fourth ∷ [] ⌝ }
+{
+    [first as u64, second as u64, third as u64, fourth as u64]
+}
+
+fn quote_for_c(quote: Quote) -> PensionQuote
+    requires { ⌜ length (quote .shares) ≡ 4 ⌝ }
+    ensures { λ r. ⌜ r ≡ quoteForC quote ⌝ }
+{
+    let shares = quote.shares;
+    let a = shares[0];
+    let b = shares[1];
+    let c = shares[2];
+    let d = shares[3];
+    PensionQuote {
+        refusal: quote.refusal as u32,
+        member: quote.member,
+        total: quote.total.0 as u64,
+        lump: amounts(a.lump.0, b.lump.0, c.lump.0, d.lump.0),
+        remaining: amounts(a.remaining.0, b.remaining.0, c.remaining.0, d.remaining.0),
+        second: amounts(a.second.0, b.second.0, c.second.0, d.second.0),
+    }
+}
+
+// The quote of a case line.
+#[no_mangle]
+pub extern "C" fn pension_quote(line: &[u8]) -> PensionQuote
+    ensures { λ r. ⌜ r ≡ quoteForC (quoteOf (now (line .entry))) ⌝ }
+{
+    let quote = split::quote(line);
+    quote_for_c(quote)
+}
+
+// The check of a register.
+#[no_mangle]
+pub extern "C" fn pension_check(register: &[u8], used: usize) -> PensionChecked
+    ensures { λ r. ⌜ r ≡ checkedForC (checkOf (now (register .entry)) used) ⌝ }
+{
+    let checked = register::check(register, used);
+    PensionChecked {
+        refusal: checked.refusal as u32,
+        offset: checked.offset,
+    }
+}
+
+fn filed_for_c(filed: Filed) -> PensionFiled
+    ensures { λ r. ⌜ r ≡ filedForC filed ⌝ }
+{
+    PensionFiled {
+        refusal: filed.refusal as u32,
+        used: filed.used,
+    }
+}
+
+// Files a case line.
+#[no_mangle]
+pub extern "C" fn pension_file(register: &mut [u8], used: usize, line: &[u8]) -> PensionFiled
+    ensures { λ r. ⌜ (r ≡ filedForC (fileAnswer (now (register .entry)) used (now (line .entry)))) × (now (register .exit) ≡ bytesAfter (now (register .entry)) used (now (line .entry))) ⌝ }
+{
+    let filed = register::file(register, used, line);
+    filed_for_c(filed)
+}
+
+// Files the lines of a text.
+#[no_mangle]
+pub extern "C" fn pension_file_lines(
+    register: &mut [u8],
+    used: usize,
+    lines: &[u8],
+    refusals: &mut [u8],
+) -> PensionFiledLines
+    ensures { λ r. ⌜ (r ≡ filedLinesForC (filedLines (now (register .entry)) used (textLines (now (lines .entry))))) × (now (register .exit) ≡ bufferOf (now (register .entry)) used (textLines (now (lines .entry)))) × (now (refusals .exit) ≡ told (answersOf (now (register .entry)) used (textLines (now (lines .entry)))) (now (refusals .entry))) ⌝ }
+{
+    let filed = register::file_lines(register, used, lines, refusals);
+    PensionFiledLines {
+        used: filed.used,
+        lines: filed.lines,
+    }
+}
+
+// Files every line of a text into an empty register.
+#[no_mangle]
+pub extern "C" fn pension_file_all(register: &mut [u8], lines: &[u8], refusals: &mut [u8]) -> usize
+    ensures { λ r. ⌜ FiledAll (now (register .entry)) (now (lines .entry)) (now (refusals .entry)) (now (register .exit)) (now (refusals .exit)) r ⌝ }
+{
+    register::file_all(register, lines, refusals)
+}
+
+fn found_for_c(located: Located) -> PensionFound
+    ensures { λ r. ⌜ r ≡ foundForC located ⌝ }
+{
+    PensionFound {
+        refusal: located.refusal as u32,
+        offset: located.offset,
+        length: located.length,
+    }
+}
+
+// Where the line with a number is: the same bytes that find_number hands back.
+#[no_mangle]
+pub extern "C" fn pension_find_number(register: &[u8], used: usize, number: u32) -> PensionFound
+    ensures { λ r. ⌜ (r ≡ foundForC (locate (hasNumber number) (now (register .entry)) used)) × (take (r .length) (drop (r .offset) (now (register .entry))) ≡ findLine (hasNumber number) (now (register .entry)) used) ⌝ }
+{
+    let located = register::locate_number(register, used, number);
+    found_for_c(located)
+}
+
+// Where a member's newest line is: the same bytes that find_member hands back.
+#[no_mangle]
+pub extern "C" fn pension_find_member(register: &[u8], used: usize, member: u32) -> PensionFound
+    ensures { λ r. ⌜ (r ≡ foundForC (locate (hasMember member) (now (register .entry)) used)) × (take (r .length) (drop (r .offset) (now (register .entry))) ≡ findLine (hasMember member) (now (register .entry)) used) ⌝ }
+{
+    let located = register::locate_member(register, used, member);
+    found_for_c(located)
+}
