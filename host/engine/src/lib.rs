@@ -1,0 +1,102 @@
+//! The retirement quotation engine, called through its C interface.
+//!
+//! Each call takes slices and gives the C struct of the same subject. Under a
+//! refusal every figure but `refusal` is 0 (the offset of a check apart).
+//! [`optional`] holds the same calls for a host that lends a null pointer in
+//! place of an empty buffer.
+
+mod raw;
+
+pub mod optional;
+
+/// Pensions a case can hold; the figures of those not there are 0.
+pub const MOST_PENSIONS: usize = 4;
+
+/// The quote for one case line, money in whole pence.
+#[repr(C)]
+#[derive(Clone, Copy, Debug, Default, PartialEq, Eq)]
+pub struct Quote {
+    pub refusal: u32,
+    pub member: u32,
+    pub total: u64,
+    pub lump: [u64; MOST_PENSIONS],
+    pub remaining: [u64; MOST_PENSIONS],
+    pub second: [u64; MOST_PENSIONS],
+}
+
+/// The check of a register: the offset of its first bad character.
+#[repr(C)]
+#[derive(Clone, Copy, Debug, Default, PartialEq, Eq)]
+pub struct Checked {
+    pub refusal: u32,
+    pub offset: usize,
+}
+
+/// A filing: the register's used length from then on.
+#[repr(C)]
+#[derive(Clone, Copy, Debug, Default, PartialEq, Eq)]
+pub struct Filed {
+    pub refusal: u32,
+    pub used: usize,
+}
+
+/// Filings of the lines of a text: the register's used length from then on,
+/// and how many lines there were.
+#[repr(C)]
+#[derive(Clone, Copy, Debug, Default, PartialEq, Eq)]
+pub struct FiledLines {
+    pub used: usize,
+    pub lines: usize,
+}
+
+/// A register line that was found: its place in the caller's register.
+#[repr(C)]
+#[derive(Clone, Copy, Debug, Default, PartialEq, Eq)]
+pub struct Found {
+    pub refusal: u32,
+    pub offset: usize,
+    pub length: usize,
+}
+
+/// Quotes one case line, its newline left out.
+pub fn quote(line: &[u8]) -> Quote {
+    optional::quote(Some(line))
+}
+
+/// Checks the first `used` bytes of a register.
+pub fn check(register: &[u8], used: usize) -> Checked {
+    optional::check(Some(register), used)
+}
+
+/// Files one case line behind the used part of a register.
+pub fn file(register: &mut [u8], used: usize, line: &[u8]) -> Filed {
+    optional::file(Some(register), used, Some(line))
+}
+
+/// Files the lines of a text one after the other behind the used part of a
+/// register. `refusals` gets one byte for each line as far as it has room.
+pub fn file_lines(
+    register: &mut [u8],
+    used: usize,
+    lines: &[u8],
+    refusals: &mut [u8],
+) -> FiledLines {
+    optional::file_lines(Some(register), used, Some(lines), Some(refusals))
+}
+
+/// Files every line of a text into a register that starts empty, whatever its
+/// bytes. Gives the used length; `refusals` gets one byte for each line as far
+/// as it has room.
+pub fn file_all(register: &mut [u8], lines: &[u8], refusals: &mut [u8]) -> usize {
+    optional::file_all(Some(register), Some(lines), Some(refusals))
+}
+
+/// Finds the register line with a quote number.
+pub fn find_number(register: &[u8], used: usize, number: u32) -> Found {
+    optional::find_number(Some(register), used, number)
+}
+
+/// Finds the newest register line of a member.
+pub fn find_member(register: &[u8], used: usize, member: u32) -> Found {
+    optional::find_member(Some(register), used, member)
+}

@@ -1,0 +1,50 @@
+//! The C declarations, word for word.
+
+use crate::{Checked, Filed, FiledLines, Found, Quote};
+
+extern "C" {
+    pub fn pension_quote(line: *const u8, line_length: usize) -> Quote;
+
+    pub fn pension_check(register: *const u8, register_length: usize, used: usize) -> Checked;
+
+    pub fn pension_file(
+        register: *mut u8,
+        register_length: usize,
+        used: usize,
+        line: *const u8,
+        line_length: usize,
+    ) -> Filed;
+
+    pub fn pension_file_lines(
+        register: *mut u8,
+        register_length: usize,
+        used: usize,
+        lines: *const u8,
+        lines_length: usize,
+        refusals: *mut u8,
+        refusals_length: usize,
+    ) -> FiledLines;
+
+    pub fn pension_file_all(
+        register: *mut u8,
+        register_length: usize,
+        lines: *const u8,
+        lines_length: usize,
+        refusals: *mut u8,
+        refusals_length: usize,
+    ) -> usize;
+
+    pub fn pension_find_number(
+        register: *const u8,
+        register_length: usize,
+        used: usize,
+        number: u32,
+    ) -> Found;
+
+    pub fn pension_find_member(
+        register: *const u8,
+        register_length: usize,
+        used: usize,
+        member: u32,
+    ) -> Found;
+}

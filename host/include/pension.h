@@ -1,0 +1,140 @@
+/*
+ * pension.h - the retirement quotation engine for police pensions, for C.
+ *
+ * Link with libhost.a, which `rt staticlib host` writes to target/staticlib/.
+ *
+ * What the engine is lent. Every pointer is lent for the length of the call
+ * alone; nothing is kept afterwards. A pointer may be NULL where its length is
+ * 0. Buffers of one call must not overlap where one of them is written. Every
+ * length, used length and byte is taken in: no argument is an error of the
+ * caller, each gets its answer or its refusal.
+ *
+ * What is written. pension_file, pension_file_lines and pension_file_all write
+ * register lines behind the used part and no other byte of the register; the
+ * last two also write a byte for each line into `refusals`. No other call
+ * writes anything.
+ *
+ * What a refusal leaves. All figures of the answer are 0 (but the offset that
+ * pension_check gives with PENSION_BAD_REGISTER), and no byte of the register
+ * is written. The lowest refusal that applies is given.
+ *
+ * Threads. The engine has no state of its own and allocates nothing: calls may
+ * run at the same time in any number of threads, as long as no other call
+ * touches a buffer while one writes it. The stack it needs is a few kilobytes.
+ *
+ * Money is in whole pence.
+ */
+#ifndef PENSION_H
+#define PENSION_H
+
+#include <stddef.h>
+#include <stdint.h>
+
+#ifdef __cplusplus
+extern "C" {
+#endif
+
+/* A register line with its newline, in bytes. */
+#define PENSION_LINE_LENGTH 121
+
+/* The longest case line, in characters, its newline not counted. */
+#define PENSION_CASE_LENGTH 202
+
+/* The most pensions a case has. */
+#define PENSION_MOST 4
+
+/* The refusals, lowest first: of the case line, of the register, of finding. */
+enum pension_refusal {
+    PENSION_GRANTED = 0,         /* no refusal */
+    PENSION_BAD_CHARACTER = 1,   /* a character is not 0-9 or A-F */
+    PENSION_BAD_LENGTH = 2,      /* not 70, 114, 158 or 202 characters, or the count disagrees */
+    PENSION_BAD_DATE = 3,        /* a date is not in the calendar, 1900 to 2199 */
+    PENSION_BAD_ORDER = 4,       /* not birth < start <= end <= commencement */
+    PENSION_BAD_AGE = 5,         /* age outside 216 to 1,199 months */
+    PENSION_UNKNOWN_KIND = 6,    /* a kind is not 1, 2 or 3 */
+    PENSION_BAD_TERMS = 7,       /* a factor, the pension increase or the flag is outside its list */
+    PENSION_WRONG_AGE = 8,       /* kind 2 at 660 months or more, or kind 3 below */
+    PENSION_NO_FACTOR = 9,       /* kind 1 or 2 without F1, and no age of Table 1 */
+    PENSION_BAD_AMOUNT = 10,     /* a stated pension is 0, or all are above 50,000,000 together */
+    PENSION_BAD_REGISTER = 11,   /* the used length, or a line of the register, is bad */
+    PENSION_NO_SPACE = 12,       /* fewer bytes free than a line has */
+    PENSION_NO_NUMBER = 13,      /* the last number is FFFFFFFF */
+    PENSION_ABSENT = 14          /* no line has the number, or the member */
+};
+
+/* A quote. The figures of pension k of the case are at place k; unused places
+ * are 0. `second` is the second instalment, which pensions of kind 2 have. */
+struct pension_quote {
+    uint32_t refusal; /* 0 to 10 */
+    uint32_t member;
+    uint64_t total; /* the lump sums together */
+    uint64_t lump[PENSION_MOST];
+    uint64_t remaining[PENSION_MOST]; /* what remains of the pension, a year */
+    uint64_t second[PENSION_MOST];
+};
+
+/* The check of a register. */
+struct pension_checked {
+    uint32_t refusal; /* 0 or 11 */
+    size_t offset;    /* with 11: the offset of the first bad character, or the bad used length */
+};
+
+/* A filing. */
+struct pension_filed {
+    uint32_t refusal; /* 0 to 13 */
+    size_t used;      /* with 0: the register's used length from now on */
+};
+
+/* Filings of the lines of a text. */
+struct pension_filed_lines {
+    size_t used;  /* the register's used length from now on */
+    size_t lines; /* how many lines the text had */
+};
+
+/* A line found: its bytes are register[offset] to register[offset + length - 1]. */
+struct pension_found {
+    uint32_t refusal; /* 0, 11 or 14 */
+    size_t offset;
+    size_t length; /* PENSION_LINE_LENGTH; 0 under a refusal */
+};
+
+/* The quote of a case line (its newline left out). Refusals 1 to 10. */
+struct pension_quote pension_quote(const uint8_t *line, size_t line_length);
+
+/* The check of the first `used` bytes of a register of `register_length`
+ * bytes. Refusal 11. A used length of 0 is sound whatever the bytes. */
+struct pension_checked pension_check(const uint8_t *register_bytes, size_t register_length, size_t used);
+
+/* Files a case line: its register line is written behind the used part.
+ * Refusals 1 to 13. The whole used part is checked for each accepted case;
+ * for many lines use pension_file_lines, which checks it once. */
+struct pension_filed pension_file(uint8_t *register_bytes, size_t register_length, size_t used,
+                                  const uint8_t *line, size_t line_length);
+
+/* Files the lines of a text one after the other, each as pension_file does. A
+ * newline (LF) ends a line, and the last line may lack it. refusals[k] is the
+ * refusal of line k, as far as there is room; the other bytes of `refusals`
+ * stay. */
+struct pension_filed_lines pension_file_lines(uint8_t *register_bytes, size_t register_length, size_t used,
+                                              const uint8_t *lines, size_t lines_length,
+                                              uint8_t *refusals, size_t refusals_length);
+
+/* The same into an empty register (used length 0, whatever its bytes). Returns
+ * the used length. */
+size_t pension_file_all(uint8_t *register_bytes, size_t register_length,
+                        const uint8_t *lines, size_t lines_length,
+                        uint8_t *refusals, size_t refusals_length);
+
+/* The line with a quote number. Refusals 11 and 14. */
+struct pension_found pension_find_number(const uint8_t *register_bytes, size_t register_length, size_t used,
+                                         uint32_t number);
+
+/* A member's newest line. Refusals 11 and 14. */
+struct pension_found pension_find_member(const uint8_t *register_bytes, size_t register_length, size_t used,
+                                         uint32_t member);
+
+#ifdef __cplusplus
+}
+#endif
+
+#endif

@@ -1,0 +1,107 @@
+//! Dates and the count of months between them.
+
+use std::ops::RangeInclusive;
+
+/// The years of the calendar.
+pub const YEARS: RangeInclusive<u16> = 1900..=2199;
+
+/// A year, month and day as stated; it need not be in the calendar. Dates
+/// compare in the order of time.
+#[derive(Clone, Copy, Debug, Default, PartialEq, Eq, PartialOrd, Ord)]
+pub struct Date {
+    pub year: u16,
+    pub month: u8,
+    pub day: u8,
+}
+
+impl Date {
+    pub const fn new(year: u16, month: u8, day: u8) -> Self {
+        Date { year, month, day }
+    }
+
+    /// Whether the date is a day of the Gregorian calendar, 1900 to 2199.
+    pub fn is_in_calendar(self) -> bool {
+        YEARS.contains(&self.year)
+            && (1..=12).contains(&self.month)
+            && (1..=days_in_month(self.year, self.month)).contains(&self.day)
+    }
+
+    /// Complete months from this date to a later one: a month is complete on
+    /// the same day of the month.
+    pub fn months_until(self, later: Date) -> i32 {
+        let years = i32::from(later.year) - i32::from(self.year);
+        let months = i32::from(later.month) - i32::from(self.month);
+        12 * years + months - i32::from(later.day < self.day)
+    }
+
+    /// The birthday at an age in years of somebody born on this date: the same
+    /// day and month, whether or not that year has such a day.
+    pub fn birthday(self, years: u16) -> Date {
+        Date { year: self.year + years, ..self }
+    }
+}
+
+/// Days of a month from 1 to 12.
+pub fn days_in_month(year: u16, month: u8) -> u8 {
+    match month {
+        2 if is_leap_year(year) => 29,
+        2 => 28,
+        4 | 6 | 9 | 11 => 30,
+        _ => 31,
+    }
+}
+
+fn is_leap_year(year: u16) -> bool {
+    year.is_multiple_of(4) && (!year.is_multiple_of(100) || year.is_multiple_of(400))
+}
+
+#[cfg(test)]
+mod tests {
+    use super::*;
+
+    #[test]
+    fn months_of_the_pension_office() {
+        let born = Date::new(1972, 6, 30);
+        assert_eq!(born.months_until(Date::new(2023, 10, 15)), 615);
+        let january = Date::new(2023, 1, 31);
+        assert_eq!(january.months_until(Date::new(2023, 2, 28)), 0);
+    }
+
+    #[test]
+    fn a_month_is_complete_on_the_same_day() {
+        let date = Date::new(2000, 2, 29);
+        assert_eq!(date.months_until(date), 0);
+        assert_eq!(date.months_until(Date::new(2001, 2, 28)), 11);
+        assert_eq!(date.months_until(Date::new(2001, 3, 1)), 12);
+        assert_eq!(date.months_until(Date::new(2004, 2, 29)), 48);
+    }
+
+    #[test]
+    fn ends_of_the_calendar() {
+        assert!(Date::new(1900, 1, 1).is_in_calendar());
+        assert!(!Date::new(1899, 12, 31).is_in_calendar());
+        assert!(Date::new(2199, 12, 31).is_in_calendar());
+        assert!(!Date::new(2200, 1, 1).is_in_calendar());
+        assert!(!Date::new(2000, 0, 1).is_in_calendar());
+        assert!(!Date::new(2000, 13, 1).is_in_calendar());
+        assert!(!Date::new(2000, 1, 0).is_in_calendar());
+    }
+
+    #[test]
+    fn lengths_of_months() {
+        let lengths = [31, 28, 31, 30, 31, 30, 31, 31, 30, 31, 30, 31];
+        for (month, length) in (1..).zip(lengths) {
+            assert!(Date::new(2023, month, length).is_in_calendar());
+            assert!(!Date::new(2023, month, length + 1).is_in_calendar());
+        }
+    }
+
+    #[test]
+    fn leap_years() {
+        for (year, leap) in
+            [(1900, false), (1904, true), (2000, true), (2023, false), (2100, false)]
+        {
+            assert_eq!(Date::new(year, 2, 29).is_in_calendar(), leap, "{year}");
+        }
+    }
+}

@@ -1,0 +1,152 @@
+//! Reading a case line: one frame of uppercase hexadecimal digits.
+
+use crate::calendar::Date;
+use crate::hexadecimal;
+use crate::refusals::Refusal;
+
+/// Pensions a case can hold.
+pub const MOST_PENSIONS: usize = 4;
+
+const HEAD_BYTES: usize = 13;
+const PENSION_BYTES: usize = 22;
+const MOST_BYTES: usize = HEAD_BYTES + MOST_PENSIONS * PENSION_BYTES;
+
+/// A pension as the case line states it.
+#[derive(Clone, Copy, Debug, Default)]
+pub struct StatedPension {
+    pub kind: u8,
+    pub yearly: u32,
+    pub start: Date,
+    pub end: Date,
+    pub lift: u8,
+    pub f1: u16,
+    pub f2: u16,
+    pub f3: u16,
+    pub increase: u16,
+}
+
+/// A case as its line states it, with nothing tested but characters and length.
+#[derive(Clone, Copy, Debug)]
+pub struct StatedCase {
+    pub member: u32,
+    pub birth: Date,
+    pub commencement: Date,
+    count: usize,
+    pensions: [StatedPension; MOST_PENSIONS],
+}
+
+impl StatedCase {
+    pub fn pensions(&self) -> &[StatedPension] {
+        &self.pensions[..self.count]
+    }
+
+    /// Complete months from birth to commencement.
+    pub fn age(&self) -> i32 {
+        self.birth.months_until(self.commencement)
+    }
+}
+
+/// Reads a case line, its newline left out. Gives refusals 1 and 2.
+pub fn read(line: &[u8]) -> Result<StatedCase, Refusal> {
+    let Some(count) = pensions_in(line.len()) else {
+        // A bad character comes before a bad length.
+        let all_digits = line.iter().all(|&character| hexadecimal::is_digit(character));
+        return Err(if all_digits { Refusal::Length } else { Refusal::Character });
+    };
+    let mut bytes = [0; MOST_BYTES];
+    let bytes = &mut bytes[..line.len() / 2];
+    if !hexadecimal::decode(line, bytes) {
+        return Err(Refusal::Character);
+    }
+    read_case(Frame { rest: bytes }, count).ok_or(Refusal::Length)
+}
+
+/// The count of pensions that a line of this length has room for.
+fn pensions_in(length: usize) -> Option<usize> {
+    (1..=MOST_PENSIONS).find(|count| 2 * (HEAD_BYTES + count * PENSION_BYTES) == length)
+}
+
+/// Reads the fields of a frame with room for `count` pensions, or nothing if
+/// the stated count disagrees.
+fn read_case(mut frame: Frame, count: usize) -> Option<StatedCase> {
+    let member = frame.number();
+    let birth = frame.date();
+    let commencement = frame.date();
+    if usize::from(frame.byte()) != count {
+        return None;
+    }
+    let mut pensions = [StatedPension::default(); MOST_PENSIONS];
+    for pension in &mut pensions[..count] {
+        *pension = read_pension(&mut frame);
+    }
+    Some(StatedCase { member, birth, commencement, count, pensions })
+}
+
+fn read_pension(frame: &mut Frame) -> StatedPension {
+    StatedPension {
+        kind: frame.byte(),
+        yearly: frame.number(),
+        start: frame.date(),
+        end: frame.date(),
+        lift: frame.byte(),
+        f1: frame.pair(),
+        f2: frame.pair(),
+        f3: frame.pair(),
+        increase: frame.pair(),
+    }
+}
+
+/// The bytes of a frame that are still to be read, highest byte first.
+struct Frame<'a> {
+    rest: &'a [u8],
+}
+
+impl Frame<'_> {
+    fn take<const N: usize>(&mut self) -> [u8; N] {
+        let (field, rest) = self.rest.split_first_chunk().expect("the length was tested");
+        self.rest = rest;
+        *field
+    }
+
+    fn byte(&mut self) -> u8 {
+        u8::from_be_bytes(self.take())
+    }
+
+    fn pair(&mut self) -> u16 {
+        u16::from_be_bytes(self.take())
+    }
+
+    fn number(&mut self) -> u32 {
+        u32::from_be_bytes(self.take())
+    }
+
+    fn date(&mut self) -> Date {
+        Date::new(self.pair(), self.byte(), self.byte())
+    }
+}
+
+#[cfg(test)]
+mod tests {
+    use super::*;
+
+    #[test]
+    fn fields_of_the_example() {
+        let line = b"0000000107B2060F07E707010101002DC6C007C9060107E70701000000000000000000";
+        let case = read(line).expect("a well formed line");
+        assert_eq!(case.member, 1);
+        assert_eq!(case.birth, Date::new(1970, 6, 15));
+        assert_eq!(case.commencement, Date::new(2023, 7, 1));
+        let [pension] = case.pensions() else { panic!("one pension") };
+        assert_eq!((pension.kind, pension.yearly, pension.f1), (1, 3_000_000, 0));
+        assert_eq!(pension.start, Date::new(1993, 6, 1));
+        assert_eq!(pension.end, Date::new(2023, 7, 1));
+    }
+
+    #[test]
+    fn characters_come_before_length() {
+        assert_eq!(read(b"").unwrap_err(), Refusal::Length);
+        assert_eq!(read(b"00").unwrap_err(), Refusal::Length);
+        assert_eq!(read(b"0g").unwrap_err(), Refusal::Character);
+        assert_eq!(read(&[b'0'; 70]).unwrap_err(), Refusal::Length);
+    }
+}

@@ -1,0 +1,185 @@
+//! The register of quotes: numbered lines in bytes lent by the caller.
+
+use std::ops::Range;
+
+use crate::hexadecimal::{self, NUMBER_DIGITS};
+use crate::refusals::Refusal;
+use crate::split::Quote;
+
+/// Hexadecimal digits of a register line.
+pub const LINE_DIGITS: usize = 120;
+/// Bytes of a register line, its newline included.
+pub const LINE_LENGTH: usize = LINE_DIGITS + 1;
+
+const NUMBERS_IN_LINE: usize = LINE_DIGITS / NUMBER_DIGITS;
+const MEMBER_PLACE: Range<usize> = NUMBER_DIGITS..2 * NUMBER_DIGITS;
+
+/// Where a register is bad: the offset of its first bad character, or the used
+/// length if that is bad itself.
+#[derive(Clone, Copy, Debug, PartialEq, Eq)]
+pub struct BadAt(pub usize);
+
+impl From<BadAt> for Refusal {
+    fn from(_: BadAt) -> Refusal {
+        Refusal::Register
+    }
+}
+
+/// Checks the used part of a register and gives its last quote number, 0 if
+/// there is none.
+pub fn check(register: &[u8], used: usize) -> Result<u32, BadAt> {
+    if used > register.len() || !used.is_multiple_of(LINE_LENGTH) {
+        return Err(BadAt(used));
+    }
+    let mut last = 0;
+    for (place, line) in register[..used].chunks_exact(LINE_LENGTH).enumerate() {
+        last = check_line(line, last).map_err(|bad| BadAt(place * LINE_LENGTH + bad))?;
+    }
+    Ok(last)
+}
+
+/// Checks one line behind the line numbered `last` (0 for the first line) and
+/// gives its number, or the place of its first bad character. A wrong number
+/// is bad at its first digit, before any bad character behind it.
+fn check_line(line: &[u8], last: u32) -> Result<u32, usize> {
+    let number = hexadecimal::read_number(number_field(line))?;
+    let follows = if last == 0 { number != 0 } else { last.checked_add(1) == Some(number) };
+    if !follows {
+        return Err(0);
+    }
+    let bad_digit =
+        line[..LINE_DIGITS].iter().position(|&character| !hexadecimal::is_digit(character));
+    match bad_digit {
+        Some(place) => Err(place),
+        None if line[LINE_DIGITS] != b'\n' => Err(LINE_DIGITS),
+        None => Ok(number),
+    }
+}
+
+fn number_field(line: &[u8]) -> &[u8; NUMBER_DIGITS] {
+    line.first_chunk().expect("a register line starts with its number")
+}
+
+/// Files a case line behind the used part of a register and gives the used
+/// length from then on. The case line is tested first, then the register.
+pub fn file(register: &mut [u8], used: usize, line: &[u8]) -> Result<usize, Refusal> {
+    let quote = crate::quote(line)?;
+    let mut ledger = Ledger::open(register, used)?;
+    ledger.append(&quote)?;
+    Ok(ledger.used())
+}
+
+/// Files every line of a text into a register that starts empty, whatever its
+/// bytes, and gives its used length. Each line's refusal (0 for none) goes into
+/// `refusals` as far as there is room.
+pub fn file_all(register: &mut [u8], text: &[u8], refusals: &mut [u8]) -> usize {
+    let mut ledger = Ledger::empty(register);
+    let mut room = refusals.iter_mut();
+    for line in lines(text) {
+        let refusal = ledger.file(line).map_or_else(Refusal::number, |_| 0);
+        if let Some(place) = room.next() {
+            *place = refusal;
+        }
+    }
+    ledger.used()
+}
+
+/// The lines of a text, without their newlines. The last needs none.
+pub fn lines(text: &[u8]) -> impl Iterator<Item = &[u8]> {
+    text.split_inclusive(|&character| character == b'\n')
+        .map(|line| line.strip_suffix(b"\n").unwrap_or(line))
+}
+
+/// Finds the line with a quote number: its place in the register.
+pub fn find_number(register: &[u8], used: usize, number: u32) -> Result<Range<usize>, Refusal> {
+    let last = check(register, used)?;
+    // Numbers rise by one, so a line's distance from the last is known.
+    let newer = last.checked_sub(number).ok_or(Refusal::Absent)? as usize;
+    let lines = used / LINE_LENGTH;
+    if newer >= lines {
+        return Err(Refusal::Absent);
+    }
+    Ok(line_place(lines - 1 - newer))
+}
+
+/// Finds the newest line of a member: its place in the register.
+pub fn find_member(register: &[u8], used: usize, member: u32) -> Result<Range<usize>, Refusal> {
+    check(register, used)?;
+    let mut digits = [0; NUMBER_DIGITS];
+    hexadecimal::write_number(member, &mut digits);
+    register[..used]
+        .chunks_exact(LINE_LENGTH)
+        .rposition(|line| line[MEMBER_PLACE] == digits)
+        .map(line_place)
+        .ok_or(Refusal::Absent)
+}
+
+fn line_place(line: usize) -> Range<usize> {
+    line * LINE_LENGTH..(line + 1) * LINE_LENGTH
+}
+
+/// A register whose used part is known to be sound, so that many filings need
+/// but one check.
+#[derive(Debug)]
+pub struct Ledger<'a> {
+    register: &'a mut [u8],
+    used: usize,
+    last: u32,
+}
+
+impl<'a> Ledger<'a> {
+    /// A register with no lines, whatever its bytes.
+    pub fn empty(register: &'a mut [u8]) -> Self {
+        Ledger { register, used: 0, last: 0 }
+    }
+
+    /// A register that may have lines, after checking them.
+    pub fn open(register: &'a mut [u8], used: usize) -> Result<Self, Refusal> {
+        let last = check(register, used)?;
+        Ok(Ledger { register, used, last })
+    }
+
+    pub fn used(&self) -> usize {
+        self.used
+    }
+
+    /// Files a case line and gives the register line written for it.
+    pub fn file(&mut self, line: &[u8]) -> Result<&[u8], Refusal> {
+        let quote = crate::quote(line)?;
+        self.append(&quote)
+    }
+
+    /// Writes the register line of a quote behind the used part.
+    fn append(&mut self, quote: &Quote) -> Result<&[u8], Refusal> {
+        let line =
+            self.register[self.used..].first_chunk_mut::<LINE_LENGTH>().ok_or(Refusal::NoSpace)?;
+        let number = self.last.checked_add(1).ok_or(Refusal::LastNumber)?;
+        write_line(number, quote, line);
+        self.used += LINE_LENGTH;
+        self.last = number;
+        Ok(line)
+    }
+}
+
+/// Writes a register line: quote number, member, total lump sum, and lump sum,
+/// remaining pension and second instalment of each pension.
+pub fn write_line(number: u32, quote: &Quote, line: &mut [u8; LINE_LENGTH]) {
+    let mut numbers = [0; NUMBERS_IN_LINE];
+    numbers[..3].copy_from_slice(&[number, quote.member, pence(quote.total.0)]);
+    for (place, figures) in numbers[3..].chunks_exact_mut(3).enumerate() {
+        figures[0] = pence(quote.lump[place].0);
+        figures[1] = pence(quote.remaining[place].0);
+        figures[2] = pence(quote.second[place].0);
+    }
+    let (digits, _) = line.as_chunks_mut::<NUMBER_DIGITS>();
+    for (field, number) in digits.iter_mut().zip(numbers) {
+        hexadecimal::write_number(number, field);
+    }
+    line[LINE_DIGITS] = b'\n';
+}
+
+/// An amount as a register field. The stated pensions total at most 50,000,000
+/// pence, so every amount of a quote has room.
+fn pence(amount: u64) -> u32 {
+    u32::try_from(amount).expect("an amount of a quote has at most eight digits")
+}

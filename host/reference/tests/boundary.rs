@@ -1,0 +1,148 @@
+//! The edge of the C interface: null pointers of length 0, empty buffers and
+//! used lengths beyond any buffer.
+
+mod common;
+
+use cases::fields::plain_case;
+use common::guarded::{lend, lend_mut};
+use engine::{optional, Checked, Filed, FiledLines, Found, Quote};
+
+/// Used lengths that no empty buffer has.
+const BEYOND: [usize; 7] =
+    [1, 121, 242, usize::MAX / 121 * 121, usize::MAX / 2, usize::MAX - 1, usize::MAX];
+
+const BAD_REGISTER: Filed = Filed { refusal: 11, used: 0 };
+const NO_SPACE: Filed = Filed { refusal: 12, used: 0 };
+const EMPTY_LINE: Filed = Filed { refusal: 2, used: 0 };
+const ABSENT: Found = Found { refusal: 14, offset: 0, length: 0 };
+const NOT_FOUND_IN_BAD_REGISTER: Found = Found { refusal: 11, offset: 0, length: 0 };
+
+/// An empty buffer in each way it can be lent: no pointer, and one to nothing.
+fn nothing() -> [Option<&'static [u8]>; 2] {
+    [None, Some(&[])]
+}
+
+#[test]
+fn quoting_nothing() {
+    for line in nothing() {
+        assert_eq!(optional::quote(line), Quote { refusal: 2, ..Quote::default() });
+    }
+}
+
+#[test]
+fn checking_nothing() {
+    for register in nothing() {
+        assert_eq!(optional::check(register, 0), Checked { refusal: 0, offset: 0 });
+        for used in BEYOND {
+            assert_eq!(optional::check(register, used), Checked { refusal: 11, offset: used });
+        }
+    }
+}
+
+#[test]
+fn finding_in_nothing() {
+    for register in nothing() {
+        for wanted in [0, 1, u32::MAX] {
+            assert_eq!(optional::find_number(register, 0, wanted), ABSENT);
+            assert_eq!(optional::find_member(register, 0, wanted), ABSENT);
+            for used in BEYOND {
+                let found = optional::find_number(register, used, wanted);
+                assert_eq!(found, NOT_FOUND_IN_BAD_REGISTER);
+                let found = optional::find_member(register, used, wanted);
+                assert_eq!(found, NOT_FOUND_IN_BAD_REGISTER);
+            }
+        }
+    }
+}
+
+#[test]
+fn filing_into_nothing() {
+    let good = plain_case(&[1]).line();
+    for is_null in [true, false] {
+        let register = || if is_null { None } else { Some(&mut [][..]) };
+        lend(&good, |line| {
+            assert_eq!(optional::file(register(), 0, Some(line)), NO_SPACE);
+            for used in BEYOND {
+                assert_eq!(optional::file(register(), used, Some(line)), BAD_REGISTER);
+            }
+        });
+        for line in nothing() {
+            assert_eq!(optional::file(register(), 0, line), EMPTY_LINE);
+            assert_eq!(optional::file(register(), usize::MAX, line), EMPTY_LINE);
+        }
+    }
+}
+
+#[test]
+fn filing_nothing() {
+    for line in nothing() {
+        for used in [0, 121, 242, 243, usize::MAX] {
+            let before = [0x5A; 242];
+            let (filed, after) =
+                lend_mut(&before, |register| optional::file(Some(register), used, line));
+            assert_eq!(filed, EMPTY_LINE);
+            assert_eq!(after, before);
+        }
+    }
+}
+
+#[test]
+fn filing_with_a_used_length_beyond() {
+    let good = plain_case(&[1, 1, 1, 1]).line();
+    for length in [1, 120, 121, 242, 400] {
+        let before = vec![b'0'; length];
+        for used in BEYOND.into_iter().chain([length + 1]).filter(|&used| used > length) {
+            let (filed, after) = lend_mut(&before, |register| engine::file(register, used, &good));
+            assert_eq!(filed, BAD_REGISTER);
+            assert_eq!(after, before);
+        }
+    }
+}
+
+#[test]
+fn filing_texts_with_buffers_missing() {
+    let text = [plain_case(&[1]).line(), b"\n\n".to_vec()].concat();
+    // No register: both lines are refused, for want of room and of a case.
+    let (used, refusals) =
+        lend_mut(&[0xEE; 3], |refusals| optional::file_all(None, Some(&text), Some(refusals)));
+    assert_eq!((used, refusals), (0, vec![12, 2, 0xEE]));
+    // No room for refusals.
+    let (used, register) =
+        lend_mut(&[0xEE; 130], |register| optional::file_all(Some(register), Some(&text), None));
+    assert_eq!(used, 121);
+    assert_eq!(register[121..], [0xEE; 9]);
+    // No text: nothing is written at all.
+    for text in nothing() {
+        let (used, register) = lend_mut(&[0xEE; 130], |register| {
+            let (used, refusals) = lend_mut(&[0xDD; 3], |refusals| {
+                optional::file_all(Some(register), text, Some(refusals))
+            });
+            assert_eq!(refusals, [0xDD; 3]);
+            used
+        });
+        assert_eq!((used, register), (0, vec![0xEE; 130]));
+    }
+    // Neither register nor refusals, and nothing whatever.
+    assert_eq!(optional::file_all(None, Some(&text), None), 0);
+    assert_eq!(optional::file_all(None, None, None), 0);
+    assert_eq!(engine::file_all(&mut [], &[], &mut []), 0);
+}
+
+#[test]
+fn filing_lines_with_buffers_missing_or_too_short() {
+    let text = [plain_case(&[1]).line(), b"\n\n".to_vec()].concat();
+    for used in BEYOND {
+        let (filed, refusals) = lend_mut(&[0xEE; 3], |refusals| {
+            optional::file_lines(None, used, Some(&text), Some(refusals))
+        });
+        assert_eq!(filed, FiledLines { used, lines: 2 });
+        assert_eq!(refusals, [11, 2, 0xEE]);
+        let (filed, register) = lend_mut(&[0x5A; 120], |register| {
+            optional::file_lines(Some(register), used, Some(&text), None)
+        });
+        assert_eq!(filed, FiledLines { used, lines: 2 });
+        assert_eq!(register, [0x5A; 120]);
+        assert_eq!(optional::file_lines(None, used, None, None), FiledLines { used, lines: 0 });
+    }
+    assert_eq!(optional::file_lines(None, 0, None, None), FiledLines { used: 0, lines: 0 });
+}

@@ -1,0 +1,191 @@
+//! Calls the engine with guarded buffers and asserts that it gives what the
+//! reference gives.
+
+use std::ops::Range;
+use std::thread;
+
+use engine::{Checked, Filed, Found, Quote};
+use reference::money::{LumpPence, YearlyPence};
+use reference::{register as book, Refusal};
+
+use super::guarded::{lend, lend_mut};
+use cases::fields::CaseFields;
+
+/// The input of a call. It prints itself if the test fails while it lives.
+struct Input<'a> {
+    register: &'a [u8],
+    used: usize,
+    text: &'a [u8],
+}
+
+impl Drop for Input<'_> {
+    fn drop(&mut self) {
+        if thread::panicking() {
+            let Input { register, used, text } = self;
+            eprintln!("text: {}", beginning(text));
+            eprintln!("used {used} of {} bytes: {}", register.len(), beginning(register));
+        }
+    }
+}
+
+/// The beginning of an input that may be megabytes long.
+fn beginning(bytes: &[u8]) -> String {
+    bytes[..bytes.len().min(20_000)].escape_ascii().to_string()
+}
+
+/// Quotes a line with both and gives the quote they agree on.
+pub fn assert_quote(line: &[u8]) -> Quote {
+    let _input = Input { register: &[], used: 0, text: line };
+    let quoted = lend(line, engine::quote);
+    assert_eq!(quoted, expected_quote(line));
+    quoted
+}
+
+/// Quotes a case with both and asserts the refusal that the rules give, 0 for
+/// none.
+pub fn assert_refusal(case: &CaseFields, refusal: u32) {
+    let quote = assert_quote(&case.line());
+    assert_eq!(quote.refusal, refusal, "{case:?}");
+}
+
+/// Checks a register with both and gives what they agree on.
+pub fn assert_check(register: &[u8], used: usize) -> Checked {
+    let _input = Input { register, used, text: &[] };
+    let checked = lend(register, |register| engine::check(register, used));
+    let expected = match book::check(register, used) {
+        Ok(_) => Checked::default(),
+        Err(bad) => Checked { refusal: u32::from(Refusal::Register.number()), offset: bad.0 },
+    };
+    assert_eq!(checked, expected);
+    checked
+}
+
+/// Finds a number with both and gives what they agree on.
+pub fn assert_find_number(register: &[u8], used: usize, number: u32) -> Found {
+    let _input = Input { register, used, text: &[] };
+    let found = lend(register, |register| engine::find_number(register, used, number));
+    let expected = expected_found(book::find_number(register, used, number));
+    assert_eq!(found, expected, "number {number:08X}");
+    found
+}
+
+/// Finds a member's newest line with both and gives what they agree on.
+pub fn assert_find_member(register: &[u8], used: usize, member: u32) -> Found {
+    let _input = Input { register, used, text: &[] };
+    let found = lend(register, |register| engine::find_member(register, used, member));
+    let expected = expected_found(book::find_member(register, used, member));
+    assert_eq!(found, expected, "member {member:08X}");
+    found
+}
+
+/// Files a line with both, starting from the same bytes. Asserts that both
+/// leave the same bytes, and that none but those of a new line is written.
+/// Gives the result and the register afterwards.
+pub fn assert_file(register: &[u8], used: usize, line: &[u8]) -> (Filed, Vec<u8>) {
+    let _input = Input { register, used, text: line };
+    let (filed, after) =
+        lend_mut(register, |register| lend(line, |line| engine::file(register, used, line)));
+    let mut expected_after = register.to_vec();
+    let expected = match book::file(&mut expected_after, used, line) {
+        Ok(used) => Filed { refusal: 0, used },
+        Err(refusal) => Filed { refusal: u32::from(refusal.number()), used: 0 },
+    };
+    assert_eq!(filed, expected);
+    assert!(after == expected_after, "bytes differ: {}", after.escape_ascii());
+    let written = if filed.refusal == 0 { used..filed.used } else { 0..0 };
+    assert!(after[..written.start] == register[..written.start], "a byte before was written");
+    assert!(after[written.end..] == register[written.end..], "a byte behind was written");
+    (filed, after)
+}
+
+/// What a list of filings comes to.
+#[derive(Clone, Debug, PartialEq, Eq)]
+pub struct FiledAll {
+    pub used: usize,
+    pub register: Vec<u8>,
+    pub refusals: Vec<u8>,
+}
+
+impl FiledAll {
+    fn assert_same(&self, expected: &FiledAll) {
+        assert_eq!((self.used, &self.refusals), (expected.used, &expected.refusals));
+        assert!(self == expected, "bytes differ: {}", beginning(&self.register));
+    }
+}
+
+/// Files all lines of a text into an empty register with the engine, by both
+/// calls that do so, and, one by one, with the reference, and gives what they
+/// agree on.
+pub fn assert_file_all(register: &[u8], text: &[u8], refusals: &[u8]) -> FiledAll {
+    let _input = Input { register, used: 0, text };
+    let ((used, refusals_after), register_after) = lend_mut(register, |register| {
+        lend(text, |text| lend_mut(refusals, |refusals| engine::file_all(register, text, refusals)))
+    });
+    let filed = FiledAll { used, register: register_after, refusals: refusals_after };
+    filed.assert_same(&assert_file_lines(register, 0, text, refusals));
+    filed
+}
+
+/// Files the lines of a text behind the used part of a register with the
+/// engine and, one by one, with the reference, and gives what they agree on.
+pub fn assert_file_lines(register: &[u8], used: usize, text: &[u8], refusals: &[u8]) -> FiledAll {
+    let _input = Input { register, used, text };
+    let ((answer, refusals_after), register_after) = lend_mut(register, |register| {
+        lend(text, |text| {
+            lend_mut(refusals, |refusals| engine::file_lines(register, used, text, refusals))
+        })
+    });
+    let filed = FiledAll { used: answer.used, register: register_after, refusals: refusals_after };
+    filed.assert_same(&file_one_by_one(register, used, text, refusals));
+    assert_eq!(answer.lines, lines_of(text).len());
+    filed
+}
+
+/// The lines of a text. Nothing stands behind the last newline.
+fn lines_of(text: &[u8]) -> Vec<&[u8]> {
+    let mut lines: Vec<&[u8]> = text.split(|&character| character == b'\n').collect();
+    if lines.last().is_some_and(|line| line.is_empty()) {
+        lines.pop();
+    }
+    lines
+}
+
+/// Files each line of a text with the reference, by a call of its own.
+fn file_one_by_one(register: &[u8], used: usize, text: &[u8], refusals: &[u8]) -> FiledAll {
+    let mut all = FiledAll { used, register: register.to_vec(), refusals: refusals.to_vec() };
+    for (place, line) in lines_of(text).into_iter().enumerate() {
+        let refusal = match book::file(&mut all.register, all.used, line) {
+            Ok(used) => {
+                all.used = used;
+                0
+            }
+            Err(refusal) => refusal.number(),
+        };
+        if let Some(room) = all.refusals.get_mut(place) {
+            *room = refusal;
+        }
+    }
+    all
+}
+
+/// The reference's quote as the C interface gives it.
+fn expected_quote(line: &[u8]) -> Quote {
+    match reference::quote(line) {
+        Err(refusal) => Quote { refusal: u32::from(refusal.number()), ..Quote::default() },
+        Ok(quote) => Quote {
+            refusal: 0,
+            member: quote.member,
+            total: quote.total.0,
+            lump: quote.lump.map(|LumpPence(pence)| pence),
+            remaining: quote.remaining.map(|YearlyPence(pence)| pence),
+            second: quote.second.map(|LumpPence(pence)| pence),
+        },
+    }
+}
+
+fn expected_found(found: Result<Range<usize>, Refusal>) -> Found {
+    match found {
+        Ok(place) => Found { refusal: 0, offset: place.start, length: place.len() },
+        Err(refusal) => Found { refusal: u32::from(refusal.number()), ..Found::default() },
+    }
+}

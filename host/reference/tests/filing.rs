@@ -1,0 +1,278 @@
+//! Filing of one line and of many, engine against reference.
+
+mod common;
+
+use cases::fields::{plain_case, refused_line};
+use cases::generator::Generator;
+use cases::random::{any_case, good_case, kind_lists};
+use cases::registers::{sound_register, LINE, NOBODY};
+use common::compare::{
+    assert_file, assert_file_all, assert_file_lines, assert_find_member, assert_find_number,
+};
+
+/// A register of sound lines with free bytes behind them.
+fn register_with_room(random: &mut Generator, lines: usize, first: u32, free: usize) -> Vec<u8> {
+    let mut register = sound_register(random, lines, first);
+    register.extend(random.bytes(free));
+    register
+}
+
+#[test]
+fn good_cases_are_filed() {
+    let mut random = Generator::for_test("good_cases_are_filed");
+    for kinds in kind_lists() {
+        for lines in [0, 1, 2, 5] {
+            let first = random.within(1..=u32::MAX - 5);
+            let free = LINE + random.below(200);
+            let register = register_with_room(&mut random, lines, first, free);
+            let case = good_case(&mut random, &kinds);
+            let (filed, after) = assert_file(&register, lines * LINE, &case.line());
+            assert_eq!((filed.refusal, filed.used), (0, (lines + 1) * LINE));
+            let number = if lines == 0 { 1 } else { first + lines as u32 };
+            let heading = format!("{number:08X}{:08X}", case.member);
+            assert_eq!(&after[lines * LINE..][..16], heading.as_bytes());
+            assert_eq!(after[filed.used - 1], b'\n');
+        }
+    }
+}
+
+/// The whole line of the rules' example.
+#[test]
+fn the_written_line() {
+    let line = b"0000000107B2060F07E707010101002DC6C007C9060107E70701000000000000000000";
+    let (_, after) = assert_file(&[0xEE; 130], 0, line);
+    let mut expected = b"000000010000000100F1BACB00F1BACB0024426C".to_vec();
+    expected.resize(LINE - 1, b'0');
+    expected.push(b'\n');
+    expected.resize(130, 0xEE);
+    assert_eq!(after.escape_ascii().to_string(), expected.escape_ascii().to_string());
+}
+
+#[test]
+fn fewer_than_121_bytes_free() {
+    let mut random = Generator::for_test("fewer_than_121_bytes_free");
+    let line = plain_case(&[1]).line();
+    for lines in [0, 1, 3] {
+        for free in 0..=LINE + 3 {
+            let register = register_with_room(&mut random, lines, 1, free);
+            let (filed, _) = assert_file(&register, lines * LINE, &line);
+            assert_eq!(filed.refusal, if free < LINE { 12 } else { 0 });
+        }
+    }
+}
+
+#[test]
+fn last_number_used_up() {
+    let mut random = Generator::for_test("last_number_used_up");
+    let line = plain_case(&[1]).line();
+    for lines in [1, 2, 4] {
+        for (before_last, free, refusal) in
+            [(0, LINE, 13), (0, 500, 13), (0, LINE - 1, 12), (0, 0, 12), (1, LINE, 0), (1, 0, 12)]
+        {
+            let first = u32::MAX - before_last - (lines as u32 - 1);
+            let register = register_with_room(&mut random, lines, first, free);
+            let (filed, after) = assert_file(&register, lines * LINE, &line);
+            assert_eq!(filed.refusal, refusal);
+            if refusal == 0 {
+                assert_eq!(&after[lines * LINE..][..8], b"FFFFFFFF");
+            }
+        }
+    }
+}
+
+/// A refusal of the case line comes before those of the register, and a
+/// damaged register before a full one or a used-up number.
+#[test]
+fn refusals_of_line_and_register_together() {
+    let mut random = Generator::for_test("refusals_of_line_and_register_together");
+    let good = plain_case(&[1]).line();
+    let refused: Vec<Vec<u8>> = (1..=10).map(refused_line).collect();
+    for (first, free) in [(1, 200), (1, 3), (u32::MAX - 1, 200), (u32::MAX - 1, 3)] {
+        let sound = register_with_room(&mut random, 2, first, free);
+        let mut damaged = sound.clone();
+        damaged[200] = b'?';
+        for (register, used) in
+            [(&sound, 242), (&damaged, 242), (&sound, 241), (&sound, 999 * LINE)]
+        {
+            for (refusal, line) in (1..).zip(&refused) {
+                let (filed, after) = assert_file(register, used, line);
+                assert_eq!((filed.refusal, filed.used), (refusal, 0));
+                assert!(after == *register);
+            }
+            let (filed, _) = assert_file(register, used, &good);
+            if used != 242 || *register == damaged {
+                assert_eq!((filed.refusal, filed.used), (11, 0));
+            }
+        }
+    }
+}
+
+/// Filing the same register again and again, with good and bad lines.
+#[test]
+fn filings_one_after_another() {
+    let mut random = Generator::for_test("filings_one_after_another");
+    for _ in 0..20 {
+        let length = random.below(30 * LINE);
+        let mut register = random.bytes(length);
+        let mut used = 0;
+        for _ in 0..40 {
+            let line = any_line(&mut random);
+            let (filed, after) = assert_file(&register, used, &line);
+            register = after;
+            used = if filed.refusal == 0 { filed.used } else { used };
+        }
+    }
+}
+
+/// A line for a list of filings: mostly good, else refused, blank or long.
+fn any_line(random: &mut Generator) -> Vec<u8> {
+    match random.below(10) {
+        0 => Vec::new(),
+        1 => refused_line(random.within(1..=10)),
+        2 => {
+            let length = random.below(300);
+            random.digits(length)
+        }
+        3 if random.once_in(20) => random.digits(5_000),
+        _ => any_case(random).line(),
+    }
+}
+
+/// A text of lines, the last with or without a newline.
+fn any_text(random: &mut Generator, lines: usize) -> Vec<u8> {
+    let mut text = Vec::new();
+    for _ in 0..lines {
+        text.extend(any_line(random));
+        text.push(b'\n');
+    }
+    if random.once_in(2) {
+        text.pop();
+    }
+    text
+}
+
+#[test]
+fn texts_of_many_lines() {
+    let mut random = Generator::for_test("texts_of_many_lines");
+    for round in 0..1_000 {
+        let lines = random.below(40);
+        let text = any_text(&mut random, lines);
+        let room = random.below(30) * LINE + random.below(LINE);
+        let register = random.bytes(room);
+        let count = random.pick(&[0, lines / 2, lines, lines + 1, lines + 50]);
+        let refusals = vec![0xEE; count];
+        let filed = assert_file_all(&register, &text, &refusals);
+        assert!(filed.used <= register.len(), "round {round}");
+        assert!(filed.register[filed.used..] == register[filed.used..]);
+    }
+}
+
+/// Texts filed behind lines that are there: of any first number, sound and
+/// damaged, with used lengths right and wrong.
+#[test]
+fn texts_behind_a_used_part() {
+    let mut random = Generator::for_test("texts_behind_a_used_part");
+    for _ in 0..1_000 {
+        let there = random.below(6);
+        let first = random.pick(&[1, 77, u32::MAX - 7, u32::MAX - 5]);
+        let mut register = sound_register(&mut random, there, first);
+        let room = random.below(12) * LINE + random.below(LINE);
+        register.extend(random.bytes(room));
+        let used = there * LINE;
+        if there > 0 && random.once_in(4) {
+            let place = random.below(used);
+            register[place] = random.byte();
+        }
+        let used = random.pick(&[used, used, used, used + 1, used + LINE, usize::MAX]);
+        let lines = random.below(15);
+        let text = any_text(&mut random, lines);
+        assert_file_lines(&register, used, &text, &vec![0xEE; random.below(20)]);
+    }
+}
+
+/// The text of blank lines and of none, with every small refusal buffer.
+#[test]
+fn small_texts() {
+    let good = plain_case(&[1]).line();
+    let texts: [&[u8]; 9] = [
+        b"",
+        b"\n",
+        b"\n\n",
+        b"\n\n\n0",
+        b"0",
+        b"\r\n",
+        b"\n\r",
+        &[&good[..], b"\n"].concat(),
+        &[b"\n", &good[..], b"\n\n", &good[..]].concat(),
+    ];
+    for text in texts {
+        for count in 0..6 {
+            for room in [0, 1, 120, 121, 122, 241, 242, 243] {
+                assert_file_all(&vec![0x5A; room], text, &vec![0xEE; count]);
+            }
+        }
+    }
+}
+
+/// A register that looks filled from before is taken as empty all the same.
+#[test]
+fn texts_start_with_an_empty_register() {
+    let mut random = Generator::for_test("texts_start_with_an_empty_register");
+    let text = [plain_case(&[1]).line(), b"\n".to_vec()].concat();
+    for first in [1, 77, u32::MAX - 2] {
+        let register = sound_register(&mut random, 3, first);
+        let filed = assert_file_all(&register, &text.repeat(2), &[9; 2]);
+        assert_eq!((filed.used, filed.refusals), (2 * LINE, vec![0, 0]));
+        assert_eq!(&filed.register[..8], b"00000001");
+    }
+}
+
+#[test]
+fn long_lines_in_texts() {
+    let good = plain_case(&[2]).line();
+    let mut text = vec![b'0'; 1 << 20];
+    text.push(b'\n');
+    text.extend_from_slice(&good);
+    text.push(b'\n');
+    text.extend(vec![b'x'; 1 << 20]);
+    let filed = assert_file_all(&[0; 500], &text, &[0xEE; 4]);
+    assert_eq!((filed.used, filed.refusals), (LINE, vec![2, 0, 1, 0xEE]));
+}
+
+/// Lines filed from a text are found again by number and by member.
+#[test]
+fn filed_lines_are_found_again() {
+    let mut random = Generator::for_test("filed_lines_are_found_again");
+    for _ in 0..20 {
+        let mut text = Vec::new();
+        let mut members = Vec::new();
+        for _ in 0..50 {
+            let mut case = any_case(&mut random);
+            case.member = random.within(1..=20);
+            members.push(case.member);
+            text.extend(case.line());
+            text.extend(random.pick(&["\n", "\n\n", "\nbad\n"]).bytes());
+        }
+        let filed = assert_file_all(&[0; 60 * LINE], &text, &[0; 200]);
+        assert_eq!(filed.used, 50 * LINE);
+        for (line, &member) in members.iter().enumerate() {
+            let found = assert_find_number(&filed.register, filed.used, line as u32 + 1);
+            assert_eq!((found.refusal, found.offset), (0, line * LINE));
+            let newest = members.iter().rposition(|&other| other == member);
+            let found = assert_find_member(&filed.register, filed.used, member);
+            assert_eq!((found.refusal, Some(found.offset)), (0, newest.map(|line| line * LINE)));
+        }
+        assert_eq!(assert_find_number(&filed.register, filed.used, 51).refusal, 14);
+        assert_eq!(assert_find_member(&filed.register, filed.used, NOBODY).refusal, 14);
+    }
+}
+
+/// A register of the program's size, filled beyond its room.
+#[test]
+fn a_full_register() {
+    let mut random = Generator::for_test("a_full_register");
+    let text = any_text(&mut random, 1_000);
+    let filed = assert_file_all(&vec![0; 65_536], &text, &vec![0xEE; 1_100]);
+    assert_eq!(filed.used, 541 * LINE);
+    assert!(filed.refusals.contains(&12));
+}

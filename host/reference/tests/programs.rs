@@ -1,0 +1,161 @@
+//! The proved program `quotes` against the reference's, on the same inputs.
+
+mod common;
+
+use std::env;
+use std::io::Write;
+use std::path::{Path, PathBuf};
+use std::process::{Command, Stdio};
+use std::thread;
+
+use cases::fields::{plain_case, refused_line};
+use cases::generator::Generator;
+use cases::random::any_case;
+
+/// The proved program: named by `PENSION_QUOTES`, or where it is built.
+fn proved_program() -> PathBuf {
+    let built = || Path::new(env!("CARGO_MANIFEST_DIR")).join("../../target/bin/quotes");
+    let program = env::var_os("PENSION_QUOTES").map_or_else(built, PathBuf::from);
+    assert!(program.is_file(), "{} is not there: run `rt check quotes` first", program.display());
+    program
+}
+
+/// Feeds a program and gives what it prints. It must end well and report no
+/// error.
+fn printed_by(program: &Path, input: &[u8]) -> Vec<u8> {
+    let mut child = Command::new(program)
+        .stdin(Stdio::piped())
+        .stdout(Stdio::piped())
+        .stderr(Stdio::piped())
+        .spawn()
+        .expect("the program starts");
+    let mut stdin = child.stdin.take().expect("standard input is piped");
+    let output = thread::scope(|scope| {
+        scope.spawn(move || stdin.write_all(input).expect("the program reads its input"));
+        child.wait_with_output().expect("the program ends")
+    });
+    assert_eq!(output.stderr.escape_ascii().to_string(), "");
+    assert!(output.status.success(), "{} ended with {}", program.display(), output.status);
+    output.stdout
+}
+
+/// Feeds both programs and gives what both print.
+fn assert_printed(input: &[u8]) -> Vec<u8> {
+    let expected = printed_by(Path::new(env!("CARGO_BIN_EXE_quotes")), input);
+    let printed = printed_by(&proved_program(), input);
+    if printed != expected {
+        let differs = printed.iter().zip(&expected).position(|(one, other)| one != other);
+        let place = differs.unwrap_or(printed.len().min(expected.len()));
+        panic!(
+            "output differs at byte {place}: {:?} for {:?}; input starts {}",
+            excerpt(&printed, place),
+            excerpt(&expected, place),
+            input[..input.len().min(2_000)].escape_ascii()
+        );
+    }
+    printed
+}
+
+/// A part of an output, for the message of a failure.
+fn excerpt(output: &[u8], place: usize) -> String {
+    output[place..output.len().min(place + 80)].escape_ascii().to_string()
+}
+
+const EXAMPLE: &[u8] =
+    b"0000000107B2060F07E707010101002DC6C007C9060107E70701000000000000000000\n00\n";
+
+#[test]
+fn the_example() {
+    let mut expected = b"000000010000000100F1BACB00F1BACB0024426C".to_vec();
+    expected.resize(120, b'0');
+    expected.extend(b"\nR02\n");
+    assert_eq!(assert_printed(EXAMPLE), expected);
+    assert_eq!(assert_printed(&EXAMPLE[..EXAMPLE.len() - 1]), expected);
+}
+
+#[test]
+fn blank_inputs() {
+    assert_eq!(assert_printed(b""), b"");
+    assert_eq!(assert_printed(b"\n"), b"R02\n");
+    assert_eq!(assert_printed(b"\n\n\n"), b"R02\nR02\nR02\n");
+    assert_eq!(assert_printed(b"\0"), b"R01\n");
+    assert_eq!(assert_printed(b"0"), b"R02\n");
+}
+
+#[test]
+fn no_final_newline() {
+    let line = plain_case(&[1, 3]).line();
+    assert_eq!(assert_printed(&line).len(), 121);
+    assert_eq!(assert_printed(&[&line[..], b"\n", &line].concat()).len(), 242);
+    assert_eq!(assert_printed(&[&line[..], b"\n\n"].concat())[121..], *b"R02\n");
+}
+
+#[test]
+fn carriage_returns_are_bad_characters() {
+    let line = plain_case(&[2]).line();
+    assert_eq!(
+        assert_printed(&[&line[..], b"\r\n", &line, b"\r\n\r\n"].concat()),
+        b"R01\nR01\nR01\n"
+    );
+}
+
+#[test]
+fn every_refusal_of_a_line() {
+    let lines: Vec<Vec<u8>> =
+        (1..=10).map(|refusal| [refused_line(refusal), b"\n".to_vec()].concat()).collect();
+    assert_eq!(
+        assert_printed(&lines.concat()),
+        b"R01\nR02\nR03\nR04\nR05\nR06\nR07\nR08\nR09\nR10\n"
+    );
+}
+
+/// More good lines than the register has room for, among refused ones.
+#[test]
+fn two_thousand_mixed_lines() {
+    let mut random = Generator::for_test("two_thousand_mixed_lines");
+    let mut input = Vec::new();
+    for _ in 0..2_000 {
+        match random.below(8) {
+            0 => input.extend(refused_line(random.within(1..=10))),
+            1 => {
+                let length = random.below(300);
+                input.extend(random.digits(length));
+            }
+            2 if random.once_in(2) => {}
+            _ => input.extend(any_case(&mut random).line()),
+        }
+        input.push(b'\n');
+    }
+    let printed = assert_printed(&input);
+    assert!(printed.windows(4).any(|line| line == b"R12\n"));
+}
+
+/// Random bytes, newlines among them.
+#[test]
+fn random_bytes() {
+    let mut random = Generator::for_test("random_bytes");
+    for length in [1, 10, 1_000, 70_000] {
+        assert_printed(&random.bytes(length));
+    }
+}
+
+/// Lines of several megabytes, good characters and bad ones, between others.
+#[test]
+fn long_lines() {
+    let good = plain_case(&[1]).line();
+    let long = vec![b'F'; 3 << 20];
+    let mut bad = vec![b'0'; 1 << 20];
+    bad.push(b'x');
+    let input = [&good[..], &long, &good, &bad, &bad[..1 << 20]].join(&b'\n');
+    let printed = assert_printed(&input);
+    assert_eq!(printed.len(), 2 * 121 + 3 * 4);
+    assert!(printed.ends_with(b"R01\nR02\n"));
+}
+
+/// Tens of thousands of lines after the register is full.
+#[test]
+fn a_long_input() {
+    let line = [plain_case(&[1, 1, 3, 3]).line(), b"\n".to_vec()].concat();
+    let printed = assert_printed(&line.repeat(20_000));
+    assert_eq!(printed.len(), 541 * 121 + (20_000 - 541) * 4);
+}
