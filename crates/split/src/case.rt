@@ -4,11 +4,11 @@ use calendar::Date;
 use factors::effective::FactorTerms;
 use factors::money::YearlyPence;
 ghost use mathlib.Core.Path.{_≡_};
-ghost use mathlib.Core.Bool.{false};
-ghost use Prim.Native.Nat.{_+_, _*_, _≤_};
+ghost use mathlib.Core.List.{List};
+ghost use Prim.Native.Nat.{ℕ, _+_, _*_, _≤_};
 ghost use lib.ListN.{length, take};
-ghost use Rattle.split.specs.Frame.{badCharacter};
 ghost use Rattle.split.specs.Case.{headOf, serviceAt, termsAt, pensionAt, pensionsAt};
+ghost use Rattle.split.specs.Parts.{Values, Digits};
 
 pub struct Head {
     pub member: u32,
@@ -35,18 +35,18 @@ struct ServiceField {
     pub next: Cursor,
 }
 
-pub fn read_head(line: &[u8]) -> Head
-    requires { ⌜ badCharacter (now line) ≡ false ⌝ }
-    ensures { λ r. ⌜ r ≡ headOf (now (line .entry)) ⌝ }
+pub fn read_head(digits: &[u8]) -> Head
+    requires { ⌜ Values (now digits) ⌝ }
+    ensures { λ r. ⌜ ((s : List ℕ) → Digits s (now (digits .entry)) → r ≡ headOf s) ⌝ }
 {
     let start = Cursor { at: 0 };
-    let member = start.number(line);
+    let member = start.number(digits);
     let after_member = member.next;
-    let birth = after_member.date(line);
+    let birth = after_member.date(digits);
     let after_birth = birth.next;
-    let commencement = after_birth.date(line);
+    let commencement = after_birth.date(digits);
     let after_commencement = commencement.next;
-    let count = after_commencement.byte(line);
+    let count = after_commencement.byte(digits);
     let born = birth.value;
     let commences = commencement.value;
     Head {
@@ -57,13 +57,13 @@ pub fn read_head(line: &[u8]) -> Head
     }
 }
 
-fn read_service(line: &[u8], at: Cursor) -> ServiceField
-    requires { ⌜ (at .at ≤ 900) × (badCharacter (now line) ≡ false) ⌝ }
-    ensures { λ r. ⌜ (r .value ≡ serviceAt (now (line .entry)) (at .at)) × (r .next .at ≡ at .at + 16) ⌝ }
+fn read_service(digits: &[u8], at: Cursor) -> ServiceField
+    requires { ⌜ (at .at ≤ 186) × Values (now digits) ⌝ }
+    ensures { λ r. ⌜ ((s : List ℕ) → Digits s (now (digits .entry)) → r .value ≡ serviceAt s (at .at)) × (r .next .at ≡ at .at + 16) ⌝ }
 {
-    let start = at.date(line);
+    let start = at.date(digits);
     let after_start = start.next;
-    let end = after_start.date(line);
+    let end = after_start.date(digits);
     let next = end.next;
     let first = start.value;
     let last = end.value;
@@ -76,17 +76,17 @@ fn read_service(line: &[u8], at: Cursor) -> ServiceField
     }
 }
 
-fn read_terms(line: &[u8], at: Cursor) -> FactorTerms
-    requires { ⌜ (at .at ≤ 900) × (badCharacter (now line) ≡ false) ⌝ }
-    ensures { λ r. ⌜ r ≡ termsAt (now (line .entry)) (at .at) ⌝ }
+fn read_terms(digits: &[u8], at: Cursor) -> FactorTerms
+    requires { ⌜ (at .at ≤ 186) × Values (now digits) ⌝ }
+    ensures { λ r. ⌜ ((s : List ℕ) → Digits s (now (digits .entry)) → r ≡ termsAt s (at .at)) ⌝ }
 {
-    let f1 = at.short(line);
+    let f1 = at.short(digits);
     let after_f1 = f1.next;
-    let f2 = after_f1.short(line);
+    let f2 = after_f1.short(digits);
     let after_f2 = f2.next;
-    let f3 = after_f2.short(line);
+    let f3 = after_f2.short(digits);
     let after_f3 = f3.next;
-    let increase = after_f3.short(line);
+    let increase = after_f3.short(digits);
     FactorTerms {
         f1: f1.value,
         f2: f2.value,
@@ -95,19 +95,19 @@ fn read_terms(line: &[u8], at: Cursor) -> FactorTerms
     }
 }
 
-fn read_pension(line: &[u8], at: Cursor) -> Pension
-    requires { ⌜ (at .at ≤ 800) × (badCharacter (now line) ≡ false) ⌝ }
-    ensures { λ r. ⌜ r ≡ pensionAt (now (line .entry)) (at .at) ⌝ }
+fn read_pension(digits: &[u8], at: Cursor) -> Pension
+    requires { ⌜ (at .at ≤ 158) × Values (now digits) ⌝ }
+    ensures { λ r. ⌜ ((s : List ℕ) → Digits s (now (digits .entry)) → r ≡ pensionAt s (at .at)) ⌝ }
 {
-    let kind = at.byte(line);
+    let kind = at.byte(digits);
     let after_kind = kind.next;
-    let stated = after_kind.number(line);
+    let stated = after_kind.number(digits);
     let after_stated = stated.next;
-    let service = read_service(line, after_stated);
+    let service = read_service(digits, after_stated);
     let after_service = service.next;
-    let lift = after_service.byte(line);
+    let lift = after_service.byte(digits);
     let after_lift = lift.next;
-    let terms = read_terms(line, after_lift);
+    let terms = read_terms(digits, after_lift);
     let served = service.value;
     Pension {
         kind: kind.value,
@@ -145,14 +145,14 @@ fn no_pension() -> Pension {
 }
 
 // The first n pensions of a line, in as many places of the array.
-pub fn read_pensions(line: &[u8], n: usize) -> [Pension; 4]
-    requires { ⌜ (n ≤ 4) × (badCharacter (now line) ≡ false) ⌝ }
-    ensures { λ r. ⌜ (take n r ≡ pensionsAt (now (line .entry)) n) × (length r ≡ 4) ⌝ }
+pub fn read_pensions(digits: &[u8], n: usize) -> [Pension; 4]
+    requires { ⌜ (n ≤ 4) × Values (now digits) ⌝ }
+    ensures { λ r. ⌜ ((s : List ℕ) → Digits s (now (digits .entry)) → take n r ≡ pensionsAt s n) × (length r ≡ 4) ⌝ }
 {
     let mut pensions = [no_pension(); 4];
     let mut i = 0;
     while i < n {
-        let pension = read_pension(line, Cursor { at: 26 + 44 * i });
+        let pension = read_pension(digits, Cursor { at: 26 + 44 * i });
         pensions[i] = pension;
         i += 1;
     }

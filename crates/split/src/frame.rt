@@ -2,10 +2,15 @@
 use calendar::Date;
 ghost use mathlib.Core.Path.{_≡_};
 ghost use mathlib.Core.Bool.{false};
-ghost use Prim.Native.Nat.{_+_, _%_, _^_, _≤_, _<_};
+ghost use mathlib.Core.List.{List};
+ghost use Prim.Native.Nat.{ℕ, _+_, _*_, _%_, _^_, _≤_, _<_};
 ghost use lib.Dec.{eqb};
-ghost use lib.ListN.{length};
+ghost use lib.ListN.{getD};
 ghost use Rattle.split.specs.Frame.{hexValue, digitAt, numberAt, dateAt, badCharacter};
+ghost use Rattle.split.specs.Parts.{Values, Digits};
+
+// The characters of the longest case line.
+const LONGEST: usize = 202;
 
 // The value of a character: 0-9 and A-F, and 16 for any other.
 pub fn hex_value(character: u8) -> u8
@@ -34,26 +39,37 @@ pub fn has_bad_character(line: &[u8]) -> bool
 }
 
 // The value of a character that is known to be a digit.
-fn digit_value(character: u8) -> u32
+fn digit_value(character: u8) -> u8
     requires { ⌜ eqb (hexValue character) 16 ≡ false ⌝ }
     ensures { λ r. ⌜ r ≡ hexValue character % 16 ⌝ }
 {
-    let code = character as u32;
-    code % 16 + 9 * (code / 64)
+    character % 16 + 9 * (character / 64)
 }
 
-// The number of this many digits within a line of digits.
-fn digits_within(line: &[u8], at: usize, count: usize) -> u32
-    requires { ⌜ (at + count ≤ length (now line)) × (count ≤ 8) × (badCharacter (now line) ≡ false) ⌝ }
-    ensures { λ r. ⌜ r ≡ numberAt (now (line .entry)) at count ⌝ }
+// The digits of a line, as far as the longest case line goes; zeros behind its end.
+pub fn decode(line: &[u8]) -> [u8; 202]
+    requires { ⌜ badCharacter (now line) ≡ false ⌝ }
+    ensures { λ r. ⌜ Digits (now (line .entry)) r ⌝ }
 {
-    let mut value: u32 = 0;
+    let mut digits = [0u8; 202];
+    let mut end = line.len();
+    if LONGEST < end {
+        end = LONGEST;
+    }
     let mut i = 0;
-    while i < count {
-        value = value * 16 + digit_value(line[at + i]);
+    while i < end {
+        digits[i] = digit_value(line[i]);
         i += 1;
     }
-    value
+    digits
+}
+
+// The byte that two digits make.
+fn pair(digits: &[u8], at: usize) -> u8
+    requires { ⌜ (at ≤ 200) × Values (now digits) ⌝ }
+    ensures { λ r. ⌜ r ≡ getD (now (digits .entry)) at 0 * 16 + getD (now (digits .entry)) (at + 1) 0 ⌝ }
+{
+    digits[at] * 16 + digits[at + 1]
 }
 
 // The digit at a place of any bytes; 0 past the end and where the character is no digit.
@@ -106,69 +122,57 @@ pub struct DateField {
 }
 
 impl Cursor {
-    // The number of this many digits of a line of digits.
-    fn digits(self, line: &[u8], count: usize) -> NumberField
-        requires { ⌜ (self .at ≤ 2 ^ 63) × (count ≤ 8) × (badCharacter (now line) ≡ false) ⌝ }
-        ensures { λ r. ⌜ (r .value ≡ numberAt (now (line .entry)) (self .at) count) × (r .next .at ≡ self .at + count) ⌝ }
+    // A number of one byte.
+    pub fn byte(self, digits: &[u8]) -> ByteField
+        requires { ⌜ (self .at ≤ 200) × Values (now digits) ⌝ }
+        ensures { λ r. ⌜ ((s : List ℕ) → Digits s (now (digits .entry)) → r .value ≡ numberAt s (self .at) 2) × (r .next .at ≡ self .at + 2) ⌝ }
     {
         let at = self.at;
-        let next = Cursor { at: at + count };
-        if at + count <= line.len() {
-            return NumberField {
-                value: digits_within(line, at, count),
-                next,
-            };
-        }
-        NumberField {
-            value: digits_at(line, at, count),
-            next,
-        }
-    }
-
-    // A number of one byte.
-    pub fn byte(self, line: &[u8]) -> ByteField
-        requires { ⌜ (self .at ≤ 1024) × (badCharacter (now line) ≡ false) ⌝ }
-        ensures { λ r. ⌜ (r .value ≡ numberAt (now (line .entry)) (self .at) 2) × (r .next .at ≡ self .at + 2) ⌝ }
-    {
-        let field = self.digits(line, 2);
-        let next = field.next;
         ByteField {
-            value: field.value as u8,
-            next,
+            value: pair(digits, at),
+            next: Cursor { at: at + 2 },
         }
     }
 
     // A number of two bytes.
-    pub fn short(self, line: &[u8]) -> ShortField
-        requires { ⌜ (self .at ≤ 1024) × (badCharacter (now line) ≡ false) ⌝ }
-        ensures { λ r. ⌜ (r .value ≡ numberAt (now (line .entry)) (self .at) 4) × (r .next .at ≡ self .at + 4) ⌝ }
+    pub fn short(self, digits: &[u8]) -> ShortField
+        requires { ⌜ (self .at ≤ 198) × Values (now digits) ⌝ }
+        ensures { λ r. ⌜ ((s : List ℕ) → Digits s (now (digits .entry)) → r .value ≡ numberAt s (self .at) 4) × (r .next .at ≡ self .at + 4) ⌝ }
     {
-        let field = self.digits(line, 4);
-        let next = field.next;
+        let at = self.at;
+        let high = pair(digits, at) as u16;
+        let low = pair(digits, at + 2) as u16;
         ShortField {
-            value: field.value as u16,
-            next,
+            value: high * 256 + low,
+            next: Cursor { at: at + 4 },
         }
     }
 
     // A number of four bytes.
-    pub fn number(self, line: &[u8]) -> NumberField
-        requires { ⌜ (self .at ≤ 1024) × (badCharacter (now line) ≡ false) ⌝ }
-        ensures { λ r. ⌜ (r .value ≡ numberAt (now (line .entry)) (self .at) 8) × (r .next .at ≡ self .at + 8) ⌝ }
+    pub fn number(self, digits: &[u8]) -> NumberField
+        requires { ⌜ (self .at ≤ 194) × Values (now digits) ⌝ }
+        ensures { λ r. ⌜ ((s : List ℕ) → Digits s (now (digits .entry)) → r .value ≡ numberAt s (self .at) 8) × (r .next .at ≡ self .at + 8) ⌝ }
     {
-        self.digits(line, 8)
+        let high = self.short(digits);
+        let after_high = high.next;
+        let low = after_high.short(digits);
+        let next = low.next;
+        NumberField {
+            value: high.value as u32 * 65536 + low.value as u32,
+            next,
+        }
     }
 
     // A date: two bytes of year, one of month, one of day.
-    pub fn date(self, line: &[u8]) -> DateField
-        requires { ⌜ (self .at ≤ 1000) × (badCharacter (now line) ≡ false) ⌝ }
-        ensures { λ r. ⌜ (r .value ≡ dateAt (now (line .entry)) (self .at)) × (r .next .at ≡ self .at + 8) ⌝ }
+    pub fn date(self, digits: &[u8]) -> DateField
+        requires { ⌜ (self .at ≤ 194) × Values (now digits) ⌝ }
+        ensures { λ r. ⌜ ((s : List ℕ) → Digits s (now (digits .entry)) → r .value ≡ dateAt s (self .at)) × (r .next .at ≡ self .at + 8) ⌝ }
     {
-        let year = self.short(line);
+        let year = self.short(digits);
         let after_year = year.next;
-        let month = after_year.byte(line);
+        let month = after_year.byte(digits);
         let after_month = month.next;
-        let day = after_month.byte(line);
+        let day = after_month.byte(digits);
         let next = day.next;
         DateField {
             value: Date {

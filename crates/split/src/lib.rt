@@ -21,12 +21,13 @@ pub fn quote(line: &[u8]) -> Quote
     if frame::has_bad_character(line) {
         return quoting::refused_quote(1);
     }
-    let head = case::read_head(line);
+    let digits = frame::decode(line);
+    let head = case::read_head(&digits);
     if refusal::has_bad_length(line.len(), head.count) {
         return quoting::refused_quote(2);
     }
     let n = head.count as usize;
-    let pensions = case::read_pensions(line, n);
+    let pensions = case::read_pensions(&digits, n);
     let refused = refusal::case_refusal(head, pensions, n);
     if refused != 0 {
         return quoting::refused_quote(refused);

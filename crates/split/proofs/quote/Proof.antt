@@ -5,6 +5,7 @@ use mathlib.Core.Bool.{false}
 use mathlib.Core.Path.{_≡_, sym, _∙_}
 use lib.ListN.{length}
 use Rattle.split.specs.Frame.{badCharacter}
+use Rattle.split.specs.Case.{headOf}
 use Rattle.split.specs.Refusal.{badLength}
 use Rattle.split.proofs.QuoteLaws.{count-listed, quote-misspelt, quote-mismeasured, quote-cased, quote-made}
 use Rattle.split.proofs.quote.Statement.{statement}
@@ -18,15 +19,21 @@ returns c =
 spelt : (c : tie.Else1) → badCharacter (c .before .before .before .args .line .now) ≡ false
 spelt c = sym (c .before .has-bad-character .ensures) ∙ c .if1 .left
 
+-- and the values that are read from its digits are those of the line
+headed : (c : tie.After-read-head)
+    → c .read-head .result ≡ headOf (c .before .before .before .before .before .before .args .line .now)
+headed c = c .read-head .ensures _ (c .before .before .decode .ensures)
+
 returns-2 : tie.Need-returns-2
 returns-2 c =
     let e = c .before .before in
-    quote-mismeasured _ _ (spelt (e .before .before)) (e .before .read-head .ensures) _
+    quote-mismeasured _ _ (spelt (e .before .before .before .before)) (headed (e .before)) _
     (sym (e .has-bad-length .ensures) ∙ c .before .if2 .taken) (c .refused-quote2 .ensures)
 
 -- past the second its length is that of its count
 measured : (c : tie.Else2)
-    → badLength (length (c .before .before .before .before .before .before .args .line .now)) (c .before .before .read-head .result .count) ≡ false
+    → badLength (length (c .before .before .before .before .before .before .before .before .args .line .now))
+    (c .before .before .read-head .result .count) ≡ false
 measured c = sym (c .before .has-bad-length .ensures) ∙ c .if2 .left
 
 few : (c : tie.Else2) → c .before .before .read-head .result .count ≤ 4
@@ -34,25 +41,30 @@ few c = count-listed _ _ (measured c)
 
 returns-3 : tie.Need-returns-3
 returns-3 c =
-    let e = c .before .before .before .before .before in
-    quote-cased _ _ (spelt (e .before .before .before)) (e .before .before .read-head .ensures) (measured e) _
-    (c .before .before .before .read-pensions .ensures .0) _ (c .before .before .case-refusal .ensures) _
+    let p = c .before .before .before in
+    let e = p .before .before .before in
+    let decoded = e .before .before .before .before in
+    quote-cased _ _ (spelt (decoded .before)) (headed (e .before .before)) (measured e) _
+    (p .read-pensions .ensures .0 _ (decoded .decode .ensures)) _ (c .before .before .case-refusal .ensures) _
     (c .before .if3 .taken) (c .refused-quote3 .ensures)
 
 granted-quote-requires : tie.Need-granted-quote-requires
 granted-quote-requires c κs =
-    (few (c .before .before .before .before), sym (c .before .case-refusal .ensures) ∙ c .if3 .left)
+    (few (c .before .before .before .before .before), sym (c .before .case-refusal .ensures) ∙ c .if3 .left)
 
 returns-4 : tie.Need-returns-4
 returns-4 c =
-    let e = c .before .before .before .before .before in
-    quote-made _ _ (spelt (e .before .before .before)) (e .before .before .read-head .ensures) (measured e) _
-    (c .before .before .before .read-pensions .ensures .0) _ (c .before .before .case-refusal .ensures) _
+    let p = c .before .before .before in
+    let e = p .before .before .before in
+    let decoded = e .before .before .before .before in
+    quote-made _ _ (spelt (decoded .before)) (headed (e .before .before)) (measured e) _
+    (p .read-pensions .ensures .0 _ (decoded .decode .ensures)) _ (c .before .before .case-refusal .ensures) _
     (c .before .if3 .left) (c .granted-quote .ensures)
 
 pub quote-spec : {M : Type 1} → statement M
 quote-spec =
     tie.close
-    (tie.spec (search needs) (search needs) returns (λ c κs. spelt c) (search needs) (search needs) returns-2 (search needs)
-    (λ c κs. (few (c .before), spelt (c .before .before .before .before)))
-    (λ c κs. few (c .before .before)) (search needs) returns-3 granted-quote-requires returns-4)
+    (tie.spec (search needs) (search needs) returns (λ c κs. spelt c) (search needs)
+    (λ c κs. c .before .decode .ensures .values) (search needs) (search needs) returns-2 (search needs) (search needs)
+    (λ c κs. (few (c .before .before), c .before .before .before .before .before .before .decode .ensures .values))
+    (λ c κs. few (c .before .before .before)) (search needs) returns-3 granted-quote-requires returns-4)

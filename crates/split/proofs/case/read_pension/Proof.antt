@@ -12,7 +12,7 @@ returns c =
     let stated = service .before .before in
     let kind = stated .before .before in
     let args = kind .before .before .args in
-    pension-read (args .line .now) (args .at .at) (kind .byte .result .next .at) (stated .number .result .next .at)
+    pension-read (args .digits .now) (args .at .at) (kind .byte .result .next .at) (stated .number .result .next .at)
     (service .read-service .result .next .at) (lift .byte2 .result .next .at) (kind .byte .result .value)
     (stated .number .result .value) (lift .byte2 .result .value) (service .read-service .result .value)
     (terms .read-terms .result) (kind .byte .ensures) (stated .number .ensures) (service .read-service .ensures)

@@ -7,20 +7,21 @@ use lib.ListN.{length, take, length-set}
 use borrow.Author.Needs.{needs}
 use mir.Facts.{fits-below}
 use Rattle.split.specs.Case.{pensionsAt}
+use Rattle.split.proofs.FrameLaws.{Of}
 use Rattle.split.proofs.ListLaws.{up-to, fewer, at-end}
 use Rattle.split.proofs.CaseLaws.{pension-start, pensions-stored}
 use Rattle.split.proofs.case.read_pensions.Statement.{statement}
 use Rattle.split.proofs.case.read_pensions.Tie as tie
 
 abbrev Inv-loop : tie.InvT-loop
-Inv-loop line n pensions₀ i₀ pensions i = (i ≤ n) × (length pensions ≡ 4) × (take i pensions ≡ pensionsAt line i)
+Inv-loop digits n pensions₀ i₀ pensions i = (i ≤ n) × (length pensions ≡ 4) × Of digits (take i pensions) (λ s. pensionsAt s i)
 
 abbrev μ-loop : tie.MeasureT-loop
-μ-loop line n pensions₀ i₀ pensions i = n - i
+μ-loop digits n pensions₀ i₀ pensions i = n - i
 
 loop-holds : tie.Need-loop-holds Inv-loop μ-loop
 unfolding pensionsAt
-loop-holds c = (zero-le, refl, refl)
+loop-holds c = (zero-le, refl, λ s digits. refl)
 
 -- a place in the loop is one of the four
 place : (c : tie.In-loop Inv-loop μ-loop) → c .before .loop .i < 4
@@ -32,16 +33,16 @@ loop-again c =
     let a = c .before .before .before .before .before .args in (
       add-one-le (c .before .loop-test .taken),
       length-set (l .pensions) (l .i) (c .read-pension .result) ∙ l .inv .1,
-      pensions-stored (a .line .now) (l .pensions) (l .i) (c .read-pension .result)
+      pensions-stored (a .digits .now) (l .pensions) (l .i) (c .read-pension .result)
           (up-to (l .pensions) (l .inv .1) (place (c .before))) (l .inv .2) (c .read-pension .ensures),
     )
 
 returns : tie.Need-returns Inv-loop μ-loop
 returns c =
-    let l = c .before .loop in
-    let a = c .before .before .before .before .args in (
-      at-end (λ (k : ℕ). take k (l .pensions)) (λ (k : ℕ). pensionsAt (a .line .now) k) (l .i) (a .n) (l .inv .0)
-          (c .loop-test .left) (l .inv .2),
+    let l = c .before .loop in (
+      λ s digits.
+          at-end (λ (k : ℕ). take k (l .pensions)) (λ (k : ℕ). pensionsAt s k) (l .i) (c .before .before .before .before .args .n)
+          (l .inv .0) (c .loop-test .left) (l .inv .2 s digits),
       l .inv .1,
     )
 

@@ -9,7 +9,7 @@ returns c =
     let end = c .before .before .before in
     let start = end .before .before in
     let args = start .before .before .args in
-    service-read (args .line .now) (args .at .at) (start .date .result .next .at) (end .date2 .result .next .at)
+    service-read (args .digits .now) (args .at .at) (start .date .result .next .at) (end .date2 .result .next .at)
     (start .date .result .value) (end .date2 .result .value) (start .date .ensures) (end .date2 .ensures)
 
 pub read-service-spec : {M : Type 1} → statement M

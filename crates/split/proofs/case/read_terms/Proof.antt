@@ -10,7 +10,7 @@ returns c =
     let f2 = f3 .before .before in
     let f1 = f2 .before .before in
     let args = f1 .before .before .args in
-    terms-read (args .line .now) (args .at .at) (f1 .short .result .next .at) (f2 .short2 .result .next .at)
+    terms-read (args .digits .now) (args .at .at) (f1 .short .result .next .at) (f2 .short2 .result .next .at)
     (f3 .short3 .result .next .at) (f1 .short .result .value) (f2 .short2 .result .value) (f3 .short3 .result .value)
     (c .short4 .result .value) (f1 .short .ensures) (f2 .short2 .ensures) (f3 .short3 .ensures) (c .short4 .ensures .0)
 
