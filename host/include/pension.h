@@ -4,10 +4,10 @@
  * Link with libhost.a, which `rt staticlib host` writes to target/staticlib/.
  *
  * What the engine is lent. Every pointer is lent for the length of the call
- * alone; nothing is kept afterwards. A pointer may be NULL where its length is
- * 0. Buffers of one call must not overlap where one of them is written. Every
- * length, used length and byte is taken in: no argument is an error of the
- * caller, each gets its answer or its refusal.
+ * alone; nothing is kept afterwards. Each pointer must have its length in bytes
+ * behind it, and may be NULL where that is 0. Buffers of one call must not
+ * overlap where one of them is written. Beyond that no argument is an error of
+ * the caller: every used length and every byte gets its answer or its refusal.
  *
  * What is written. pension_file, pension_file_lines and pension_file_all write
  * register lines behind the used part and no other byte of the register; the
@@ -62,8 +62,8 @@ enum pension_refusal {
     PENSION_ABSENT = 14          /* no line has the number, or the member */
 };
 
-/* A quote. The figures of pension k of the case are at place k; unused places
- * are 0. `second` is the second instalment, which pensions of kind 2 have. */
+/* A quote. The figures of pension k of the case, counted from 0, are at place
+ * k; unused places are 0. `second` is the second instalment, which pensions of kind 2 have. */
 struct pension_quote {
     uint32_t refusal; /* 0 to 10 */
     uint32_t member;
@@ -113,8 +113,8 @@ struct pension_filed pension_file(uint8_t *register_bytes, size_t register_lengt
 
 /* Files the lines of a text one after the other, each as pension_file does. A
  * newline (LF) ends a line, and the last line may lack it. refusals[k] is the
- * refusal of line k, as far as there is room; the other bytes of `refusals`
- * stay. */
+ * refusal of line k, counted from 0, as far as there is room; the other bytes of
+ * `refusals` stay. */
 struct pension_filed_lines pension_file_lines(uint8_t *register_bytes, size_t register_length, size_t used,
                                               const uint8_t *lines, size_t lines_length,
                                               uint8_t *refusals, size_t refusals_length);

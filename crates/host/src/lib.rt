@@ -1,4 +1,4 @@
-// The C interface: each open call of the engine under its C name, with the same promise. A slice passes as a pointer and a
+// The C interface: quoting, checking, filing and finding under their C names, with the same promises. A slice passes as a pointer and a
 // length. host/include/pension.h declares these for C.
 mod answers;
 
@@ -17,7 +17,7 @@ ghost use Rattle.split.specs.Quote.{quoteOf};
 ghost use Rattle.register.specs.Check.{checkOf};
 ghost use Rattle.register.specs.Find.{hasNumber, hasMember, findLine, locate};
 ghost use Rattle.register.specs.File.{fileAnswer, bytesAfter, answersOf, bufferOf};
-ghost use Rattle.register.specs.Text.{textLines, told, filedLines, FiledAll};
+ghost use Rattle.register.specs.Text.{textLines, refusalBytes, filedLines, FiledAll};
 ghost use Rattle.host.specs.Interface.{quoteForC, checkedForC, filedForC, filedLinesForC, foundForC};
 
 // Four amounts in the width that C has them.
@@ -93,7 +93,7 @@ pub extern "C" fn pension_file_lines(
     lines: &[u8],
     refusals: &mut [u8],
 ) -> PensionFiledLines
-    ensures { λ r. ⌜ (r ≡ filedLinesForC (filedLines (now (register .entry)) used (textLines (now (lines .entry))))) × (now (register .exit) ≡ bufferOf (now (register .entry)) used (textLines (now (lines .entry)))) × (now (refusals .exit) ≡ told (answersOf (now (register .entry)) used (textLines (now (lines .entry)))) (now (refusals .entry))) ⌝ }
+    ensures { λ r. ⌜ (r ≡ filedLinesForC (filedLines (now (register .entry)) used (textLines (now (lines .entry))))) × (now (register .exit) ≡ bufferOf (now (register .entry)) used (textLines (now (lines .entry)))) × (now (refusals .exit) ≡ refusalBytes (answersOf (now (register .entry)) used (textLines (now (lines .entry)))) (now (refusals .entry))) ⌝ }
 {
     let filed = register::file_lines(register, used, lines, refusals);
     PensionFiledLines {

@@ -24,7 +24,7 @@ use Rattle.register.specs.Ledger.{ledgerLines}
 use Rattle.register.specs.Line.{lineLength, lineOf, numberIn}
 use Rattle.register.specs.Check.{linesOf, checkOf}
 use Rattle.register.specs.File.{nextNumber, firstNumber, fileRefusal, fileAnswer, usedAfter, bytesAfter, answersOf, bufferOf, usedOf}
-use Rattle.register.specs.Text.{linesWith, textLines, told, filedLines, FiledAll}
+use Rattle.register.specs.Text.{linesWith, textLines, refusalBytes, filedLines, FiledAll}
 use Rattle.register.specs.Places.{Sound, Known, hasNewline, LineEnd}
 use Rattle.register.proofs.AnyLaws.{any-none}
 use Rattle.register.proofs.CheckLaws.{line-positive, bytes-length}
@@ -219,40 +219,40 @@ unfolding bufferOf usedOf
 used-more s used [] c = refl
 used-more s used (d ∷ cs) c = used-more (bytesAfter s used d) (usedAfter s used d) cs c
 
--- one more refusal told, where there is room and where there is none
-told-more : (answers : List Filed) (a : Filed) (old : List ℕ) → length answers < length old
-    → told (answers ++ (a ∷ [])) old ≡ set (told answers old) (length answers) (a .refusal)
-unfolding told
-told-more answers a [] h = absurd (omega arith)
-told-more [] a (o ∷ old) h = refl
-told-more (b ∷ answers) a (o ∷ old) h = ap (λ (l : List ℕ). b .refusal ∷ l) (told-more answers a old (omega arith))
+-- one more refusal, where there is room and where there is none
+refusals-more : (answers : List Filed) (a : Filed) (old : List ℕ) → length answers < length old
+    → refusalBytes (answers ++ (a ∷ [])) old ≡ set (refusalBytes answers old) (length answers) (a .refusal)
+unfolding refusalBytes
+refusals-more answers a [] h = absurd (omega arith)
+refusals-more [] a (o ∷ old) h = refl
+refusals-more (b ∷ answers) a (o ∷ old) h = ap (λ (l : List ℕ). b .refusal ∷ l) (refusals-more answers a old (omega arith))
 
-told-full : (answers : List Filed) (a : Filed) (old : List ℕ) → length old ≤ length answers → told (answers ++ (a ∷ [])) old ≡ told answers old
-unfolding told
-told-full [] a [] h = refl
-told-full [] a (o ∷ old) h = absurd (omega arith)
-told-full (b ∷ answers) a [] h = refl
-told-full (b ∷ answers) a (o ∷ old) h = ap (λ (l : List ℕ). b .refusal ∷ l) (told-full answers a old (omega arith))
+refusals-full : (answers : List Filed) (a : Filed) (old : List ℕ) → length old ≤ length answers → refusalBytes (answers ++ (a ∷ [])) old ≡ refusalBytes answers old
+unfolding refusalBytes
+refusals-full [] a [] h = refl
+refusals-full [] a (o ∷ old) h = absurd (omega arith)
+refusals-full (b ∷ answers) a [] h = refl
+refusals-full (b ∷ answers) a (o ∷ old) h = ap (λ (l : List ℕ). b .refusal ∷ l) (refusals-full answers a old (omega arith))
 
-told-length : (answers : List Filed) (old : List ℕ) → length (told answers old) ≡ length old
-unfolding told
-told-length [] old = refl
-told-length (a ∷ answers) [] = refl
-told-length (a ∷ answers) (o ∷ old) = ap suc (told-length answers old)
+refusals-length : (answers : List Filed) (old : List ℕ) → length (refusalBytes answers old) ≡ length old
+unfolding refusalBytes
+refusals-length [] old = refl
+refusals-length (a ∷ answers) [] = refl
+refusals-length (a ∷ answers) (o ∷ old) = ap suc (refusals-length answers old)
 
--- what has been told of answers in a buffer r: one more, where there is room and where there is none
-module _ (answers : List Filed) (old r : List ℕ) (so-far : r ≡ told answers old) where
-  pub told-size : length r ≡ length old
-  told-size = ap length so-far ∙ told-length answers old
+-- the refusals so far in a buffer r: one more, where there is room and where there is none
+module _ (answers : List Filed) (old r : List ℕ) (so-far : r ≡ refusalBytes answers old) where
+  pub refusals-size : length r ≡ length old
+  refusals-size = ap length so-far ∙ refusals-length answers old
 
-  pub told-next : (a : Filed) (n x : ℕ) (r′ : List ℕ) → n ≡ length answers → x ≡ a .refusal → n < length r → r′ ≡ set r n x
-      → r′ ≡ told (answers ++ (a ∷ [])) old
-  told-next a n x r′ count said h stored =
-      rw (stored, said, so-far, count) (sym (told-more answers a old (omega (arith, told-size))))
+  pub refusals-next : (a : Filed) (n x : ℕ) (r′ : List ℕ) → n ≡ length answers → x ≡ a .refusal → n < length r → r′ ≡ set r n x
+      → r′ ≡ refusalBytes (answers ++ (a ∷ [])) old
+  refusals-next a n x r′ count said h stored =
+      rw (stored, said, so-far, count) (sym (refusals-more answers a old (omega (arith, refusals-size))))
 
-  pub told-past : (a : Filed) (n : ℕ) (r′ : List ℕ) → n ≡ length answers → length r ≤ n → r′ ≡ r
-      → r′ ≡ told (answers ++ (a ∷ [])) old
-  told-past a n r′ count h same = same ∙ so-far ∙ sym (told-full answers a old (omega (arith, told-size)))
+  pub refusals-past : (a : Filed) (n : ℕ) (r′ : List ℕ) → n ≡ length answers → length r ≤ n → r′ ≡ r
+      → r′ ≡ refusalBytes (answers ++ (a ∷ [])) old
+  refusals-past a n r′ count h same = same ∙ so-far ∙ sym (refusals-full answers a old (omega (arith, refusals-size)))
 
 -- the used length after a filing, by its answer
 answer-used : (s c : List ℕ) (used : ℕ)
@@ -328,12 +328,12 @@ pub record Passed (s₀ : List ℕ) (used₀ : ℕ) (text r₀ s r : List ℕ) (
   pub bytes : s ≡ bufferOf s₀ used₀ done
   pub length-used : used ≡ usedOf s₀ used₀ done
   pub known : Known s used sound next
-  pub refusals : r ≡ told (answersOf s₀ used₀ done) r₀
+  pub refusals : r ≡ refusalBytes (answersOf s₀ used₀ done) r₀
   pub count : n ≡ length (answersOf s₀ used₀ done)
 
 pub passed-none : (s : List ℕ) (used : ℕ) (text r : List ℕ) (sound : Bool) (next : ℕ) → Known s used sound next
     → Passed s used text r s r sound next used 0 0
-unfolding bufferOf usedOf answersOf told
+unfolding bufferOf usedOf answersOf refusalBytes
 passed-none s used text r sound next known = record {
   done = [];
   lines = refl;
@@ -352,12 +352,12 @@ answers-count s used (c ∷ cs) = ap suc (answers-count (bytesAfter s used c) (u
 module _ {s₀ : List ℕ} {used₀ : ℕ} {text r₀ s r : List ℕ} {sound : Bool} {next used n at : ℕ}
     (p : Passed s₀ used₀ text r₀ s r sound next used n at) where
   pub passed-size : length r ≡ length r₀
-  passed-size = told-size (answersOf s₀ used₀ (p .done)) r₀ r (p .refusals)
+  passed-size = refusals-size (answersOf s₀ used₀ (p .done)) r₀ r (p .refusals)
 
   pub passed-all : length text ≤ at
       → (record { used = used; lines = n } ≡ filedLines s₀ used₀ (textLines text))
       × (s ≡ bufferOf s₀ used₀ (textLines text))
-      × (r ≡ told (answersOf s₀ used₀ (textLines text)) r₀)
+      × (r ≡ refusalBytes (answersOf s₀ used₀ (textLines text)) r₀)
   unfolding textLines linesWith filedLines
   passed-all h =
       let e : textLines text ≡ p .done =
@@ -375,7 +375,7 @@ module _ {s₀ : List ℕ} {used₀ : ℕ} {text r₀ s r : List ℕ} {sound : B
     -- the line from here to its end is filed
     pub passed-next : (after r′ : List ℕ) (sound′ : Bool) (next′ used′ n′ : ℕ) → after ≡ bytesAfter s used line
         → (used′ ≡ usedAfter s used line) × Known (bytesAfter s used line) used′ sound′ next′
-        → r′ ≡ told (answersOf s₀ used₀ (p .done) ++ (fileAnswer s used line ∷ [])) r₀ → n′ ≡ n + 1
+        → r′ ≡ refusalBytes (answersOf s₀ used₀ (p .done) ++ (fileAnswer s used line ∷ [])) r₀ → n′ ≡ n + 1
         → Passed s₀ used₀ text r₀ after r′ sound′ next′ used′ n′ (end + 1)
     passed-next after r′ sound′ next′ used′ n′ written left answered more =
         let answers : answersOf s₀ used₀ (p .done ++ (line ∷ [])) ≡ answersOf s₀ used₀ (p .done) ++ (fileAnswer s used line ∷ []) =
@@ -386,7 +386,7 @@ module _ {s₀ : List ℕ} {used₀ : ℕ} {text r₀ s r : List ℕ} {sound : B
           bytes = written ∙ rw (buffer-more, p .bytes, p .length-used);
           length-used = left .0 ∙ rw (used-more, p .bytes, p .length-used);
           known = rw written (left .1);
-          refusals = answered ∙ ap (λ (l : List Filed). told l r₀) (sym answers);
+          refusals = answered ∙ ap (λ (l : List Filed). refusalBytes l r₀) (sym answers);
           count = rw answers (simp length-append (omega (arith, p .count)));
         }
 
@@ -394,7 +394,7 @@ module _ {s₀ : List ℕ} {used₀ : ℕ} {text r₀ s r : List ℕ} {sound : B
 pub filed-all : (s text r₀ after r : List ℕ) (a : FiledLines)
     → (a ≡ filedLines s 0 (textLines text))
     × (after ≡ bufferOf s 0 (textLines text))
-    × (r ≡ told (answersOf s 0 (textLines text)) r₀)
+    × (r ≡ refusalBytes (answersOf s 0 (textLines text)) r₀)
     → FiledAll s text r₀ after r (a .used)
 unfolding filedLines
 filed-all s text r₀ after r a f = record {

@@ -31,7 +31,7 @@ findRefusal f s used = cond (eqb (checkOf s used .refusal) 0) (cond (any f (used
 unfoldable pub findLine : (List ℕ → Bool) → List ℕ → ℕ → List ℕ
 findLine f s used = cond (eqb (checkOf s used .refusal) 0) (lastWhere f (usedLines s used)) []
 
--- the place of the last line that passes a test, counted from 0
+-- the place of the last line that passes a test, counted from 0; 0 where there is none
 unfoldable pub lastPlace : (List ℕ → Bool) → List (List ℕ) → ℕ
 lastPlace f [] = 0
 lastPlace f (l ∷ ls) = cond (any f ls) (suc (lastPlace f ls)) 0

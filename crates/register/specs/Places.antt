@@ -33,6 +33,7 @@ pub record Known (s : List ℕ) (used : ℕ) (sound : Bool) (next : ℕ) : Type 
   pub good : sound ≡ true → Sound s used next
   pub bad : sound ≡ false → checkOf s used .refusal ≡ 0 → ⊥
 
+-- some character is LF
 unfoldable pub hasNewline : List ℕ → Bool
 hasNewline s = any (λ c. eqb c 10) s
 

@@ -14,7 +14,7 @@ abbrev pub isEmpty : List ℕ → Bool
 isEmpty [] = true
 isEmpty (c ∷ cs) = false
 
--- the lines of a text, of which the characters before it belong to the first: a newline ends a line, and the last may lack it
+-- the lines of a text whose first line begins with the characters before it: a newline ends a line, and the last may lack it
 unfoldable pub linesWith : List ℕ → List ℕ → List (List ℕ)
 linesWith before [] = cond (isEmpty before) [] (before ∷ [])
 linesWith before (c ∷ cs) = cond (eqb c 10) (before ∷ linesWith [] cs) (linesWith (before ++ (c ∷ [])) cs)
@@ -24,10 +24,10 @@ unfoldable pub textLines : List ℕ → List (List ℕ)
 textLines text = linesWith [] text
 
 -- the refusals of answers over the bytes that were there, as far as there is room
-unfoldable pub told : List Filed → List ℕ → List ℕ
-told [] old = old
-told (a ∷ answers) [] = []
-told (a ∷ answers) (o ∷ old) = a .refusal ∷ told answers old
+unfoldable pub refusalBytes : List Filed → List ℕ → List ℕ
+refusalBytes [] old = old
+refusalBytes (a ∷ answers) [] = []
+refusalBytes (a ∷ answers) (o ∷ old) = a .refusal ∷ refusalBytes answers old
 
 -- what filing lines one after the other answers, from any register and used length
 unfoldable pub filedLines : List ℕ → ℕ → List (List ℕ) → FiledLines
@@ -37,4 +37,4 @@ filedLines s used cs = record { used = usedOf s used cs; lines = length cs }
 -- and the used length that it leaves; and the refusals it gave.
 pub record FiledAll (s text old after refusals : List ℕ) (used : ℕ) : Type 0 where
   pub claim : ListClaim s (textLines text) (answersOf s 0 (textLines text)) after used
-  pub given : refusals ≡ told (answersOf s 0 (textLines text)) old
+  pub given : refusals ≡ refusalBytes (answersOf s 0 (textLines text)) old

@@ -46,7 +46,7 @@ fn is_bad_used(buffer: usize, used: usize) -> bool
     (buffer < used) | !(used % LINE_LENGTH == 0)
 }
 
-// The first bad character of the first bad line of whole lines. Only a bad line's characters are gone through one by one.
+// The fault of the first bad line of whole lines, or none. Only a bad line's characters are gone through one by one.
 fn check_lines(register: &[u8], used: usize) -> Checked
     requires { ⌜ (used ≤ length (now register)) × (used % lineLength ≡ 0) ⌝ }
     ensures { λ r. ⌜ r ≡ checkLines 0 0 (linesOf (used / lineLength) (now (register .entry))) ⌝ }

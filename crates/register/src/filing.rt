@@ -14,7 +14,7 @@ ghost use Rattle.split.specs.Quote.{quoteOf};
 ghost use Rattle.register.specs.Line.{lineLength};
 ghost use Rattle.register.specs.Check.{linesOf};
 ghost use Rattle.register.specs.File.{nextNumber, firstNumber, fileAnswer, bytesAfter, answersOf, bufferOf};
-ghost use Rattle.register.specs.Text.{textLines, told, filedLines, FiledAll};
+ghost use Rattle.register.specs.Text.{textLines, refusalBytes, filedLines, FiledAll};
 ghost use Rattle.register.specs.Places.{Sound, Known, hasNewline, LineEnd};
 
 // How many characters of a text are looked at together in the search for a newline.
@@ -83,7 +83,7 @@ fn enter(register: &mut [u8], used: usize, known: Opened, quote: Quote) -> Filed
     }
 }
 
-// Files a case in a register of which the same is known.
+// Files a case in a register of which it is known whether it is sound, and its next number.
 fn file_known(register: &mut [u8], used: usize, known: Opened, line: &[u8]) -> Filed
     requires { ⌜ Known (now register) used (known .sound) (known .next) ⌝ }
     ensures { λ r. ⌜ (r ≡ fileAnswer (now (register .entry)) used (now (line .entry))) × (now (register .exit) ≡ bytesAfter (now (register .entry)) used (now (line .entry))) ⌝ }
@@ -155,7 +155,7 @@ fn line_end(text: &[u8], at: usize) -> usize
 // Files the lines of a text one after the other, with one check of the register: the used length from then on and how
 // many lines there were, and a refusal for each line as far as there is room.
 pub fn file_lines(register: &mut [u8], used: usize, lines: &[u8], refusals: &mut [u8]) -> FiledLines
-    ensures { λ r. ⌜ (r ≡ filedLines (now (register .entry)) used (textLines (now (lines .entry)))) × (now (register .exit) ≡ bufferOf (now (register .entry)) used (textLines (now (lines .entry)))) × (now (refusals .exit) ≡ told (answersOf (now (register .entry)) used (textLines (now (lines .entry)))) (now (refusals .entry))) ⌝ }
+    ensures { λ r. ⌜ (r ≡ filedLines (now (register .entry)) used (textLines (now (lines .entry)))) × (now (register .exit) ≡ bufferOf (now (register .entry)) used (textLines (now (lines .entry)))) × (now (refusals .exit) ≡ refusalBytes (answersOf (now (register .entry)) used (textLines (now (lines .entry)))) (now (refusals .entry))) ⌝ }
 {
     let mut known = inspect(register, used);
     let mut filled = used;

@@ -25,7 +25,7 @@ fn last_with(register: &[u8], n: usize, offset: usize, value: u32) -> usize
     n
 }
 
-fn absent(refusal: u8) -> Located
+fn not_found(refusal: u8) -> Located
     ensures { λ r. ⌜ r ≡ record { refusal = refusal; offset = 0; length = 0 } ⌝ }
 {
     Located {
@@ -42,12 +42,12 @@ fn located(register: &[u8], used: usize, offset: usize, value: u32) -> Located
 {
     let checked = checking::check(register, used);
     if checked.refusal != 0 {
-        return absent(11);
+        return not_found(11);
     }
     let n = used / LINE_LENGTH;
     let place = last_with(register, n, offset, value);
     if n <= place {
-        return absent(14);
+        return not_found(14);
     }
     Located {
         refusal: 0,

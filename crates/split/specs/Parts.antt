@@ -1,6 +1,7 @@
--- Definitions for the contracts of private functions: parts of the conditions, which are worked out head first and then
--- pension by pension, and the ranges that keep the arithmetic within its types. That they make up the conditions, and that
--- they hold of an accepted case, is proved; nothing here has to be believed. Assumes nothing.
+-- Definitions for the contracts of private functions: the digits of a line, as `decode` gives them; parts of the
+-- conditions, which are worked out head first and then pension by pension, and the ranges that keep the arithmetic
+-- within its types. That they make up the conditions, and that they hold of an accepted case, is proved; nothing here
+-- has to be believed. Assumes nothing.
 use Prim.Native.Nat.{ℕ, _*_, _/_, _≤_, _<_, min}
 use mathlib.Core.Bool.{Bool, false, cond}
 use mathlib.Core.List.{List, [], _∷_}

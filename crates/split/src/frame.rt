@@ -82,7 +82,7 @@ fn digit_at(line: &[u8], at: usize) -> u32
     0
 }
 
-// The number of this many digits of any bytes, from any place on.
+// The number of this many digits of any bytes, from a place on.
 fn digits_at(line: &[u8], at: usize, count: usize) -> u32
     requires { ⌜ (at ≤ 2 ^ 63) × (count ≤ 8) ⌝ }
     ensures { λ r. ⌜ r ≡ numberAt (now (line .entry)) at count ⌝ }
@@ -96,7 +96,7 @@ fn digits_at(line: &[u8], at: usize, count: usize) -> u32
     value
 }
 
-// A place in a line. Each method takes the next field and hands the cursor back moved on.
+// A place among a line's digits. Each method takes the next field and hands the cursor back moved on.
 pub struct Cursor {
     pub at: usize,
 }

@@ -129,7 +129,7 @@ fn is_unstated(p: Pension) -> bool
     p.stated.0 == 0
 }
 
-// The lowest condition that the head alone breaks.
+// The lowest refusal that the head alone gives.
 fn head_refusal(head: Head, age: u32) -> u8
     requires { ⌜ age ≡ ageOf head ⌝ }
     ensures { λ r. ⌜ r ≡ lowest 3 (headConditions head) ⌝ }
@@ -143,7 +143,7 @@ fn head_refusal(head: Head, age: u32) -> u8
     0
 }
 
-// The lowest condition that a pension breaks.
+// The lowest refusal that a pension gives.
 fn pension_refusal(head: Head, age: u32, p: Pension) -> u8
     requires { ⌜ age ≡ ageOf head ⌝ }
     ensures { λ r. ⌜ r ≡ lowest 3 (pensionConditions head p) ⌝ }

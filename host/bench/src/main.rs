@@ -57,8 +57,8 @@ fn quote_lines(text: &[u8]) -> Row {
 fn file_lines(text: &[u8], count: usize) -> Row {
     let length = reference::register::lines(text).take(count).map(|line| line.len() + 1).sum();
     let text: &[u8] = &text[..length];
-    let mut registers = [vec![0; count * LINE], vec![0; count * LINE]];
-    let mut refusals = [vec![0; count], vec![0; count]];
+    let mut registers = [vec![0xEE; count * LINE], vec![0xEE; count * LINE]];
+    let mut refusals = [vec![0xEE; count], vec![0xEE; count]];
     let [ours, theirs] = &mut registers;
     let [our_refusals, their_refusals] = &mut refusals;
     let timed = Timed::of(

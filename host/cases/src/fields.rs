@@ -118,8 +118,8 @@ pub fn at_every_place(kind: u8) -> impl Iterator<Item = (CaseFields, usize)> {
     })
 }
 
-/// A good case in which one change at a place breaks any one of the refusals
-/// 1 to 10 and no other: kind 1 with stated factors, at 900 months.
+/// A good case in which one change at a place makes any one of refusals 1 to
+/// 10 apply, and no other: kind 1 with stated factors, at 900 months.
 pub fn breakable_case(count: usize) -> CaseFields {
     let mut case = plain_case(&vec![1; count]);
     case.birth = Date::new(1950, 6, 15);

@@ -24,7 +24,8 @@ pub struct Quote {
     pub second: [u64; MOST_PENSIONS],
 }
 
-/// The check of a register: the offset of its first bad character.
+/// The check of a register: the offset of its first bad character, or the used
+/// length if that is bad.
 #[repr(C)]
 #[derive(Clone, Copy, Debug, Default, PartialEq, Eq)]
 pub struct Checked {
@@ -32,7 +33,7 @@ pub struct Checked {
     pub offset: usize,
 }
 
-/// A filing: the register's used length from then on.
+/// A filing: with refusal 0 the register's used length from then on.
 #[repr(C)]
 #[derive(Clone, Copy, Debug, Default, PartialEq, Eq)]
 pub struct Filed {

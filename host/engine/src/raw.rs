@@ -1,4 +1,4 @@
-//! The C declarations, word for word.
+//! The C declarations, one for one.
 
 use crate::{Checked, Filed, FiledLines, Found, Quote};
 

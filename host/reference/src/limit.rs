@@ -110,8 +110,8 @@ mod tests {
         assert!(number.at_most(number));
     }
 
-    /// One kind 2 pension of document 001: the printed lump sum keeps the
-    /// limit, and one that is a penny above the grant breaks it.
+    /// One kind 2 pension of document 001: the lump sum granted keeps the
+    /// limit, and a penny more breaks it.
     #[test]
     fn limit_of_one_pension() {
         let factor = Factor::after_break(2628, 2280, 872, 1000);

@@ -152,6 +152,34 @@ fn long_lines() {
     assert!(printed.ends_with(b"R01\nR02\n"));
 }
 
+/// One bad character at any place of a line of several blocks.
+#[test]
+fn a_bad_character_anywhere_in_a_long_line() {
+    let good = plain_case(&[1]).line();
+    for place in [0, 1, 202, 203, 204, 300, 65_332, 65_333, 65_535, 65_536, 130_868, 199_999] {
+        let mut long = vec![b'F'; 200_000];
+        long[place] = b'x';
+        let printed = assert_printed(&[&long[..], b"\n", &good].concat());
+        assert!(printed.starts_with(b"R01\n0000000100C0FFEE"));
+        // The same line, ended by the input's end.
+        assert_eq!(assert_printed(&long), b"R01\n");
+    }
+}
+
+/// Lines of the greatest length and of one more, cut anywhere by a block's end.
+#[test]
+fn lines_across_a_block() {
+    let good = plain_case(&[1, 1, 3, 3]).line();
+    for before in (0..=204).step_by(3) {
+        let mut input = vec![b'\n'; 65_536 - before];
+        for line in [&good[..], b"\n", &good, b"0\n", &good] {
+            input.extend_from_slice(line);
+        }
+        let printed = assert_printed(&input);
+        assert_eq!(printed.len(), 4 * (65_536 - before) + 2 * 121 + 4);
+    }
+}
+
 /// Tens of thousands of lines after the register is full.
 #[test]
 fn a_long_input() {

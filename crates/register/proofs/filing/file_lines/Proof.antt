@@ -7,7 +7,7 @@ use lib.ListN.{length}
 use borrow.Author.Needs.{needs}
 use Rattle.register.specs.declared.answers.Filed.{Filed}
 use Rattle.register.specs.declared.filing.Opened.{Opened}
-use Rattle.register.proofs.FilingLaws.{Passed, passed-none, passed-size, passed-all, passed-next, told-next, told-past, granted-low, granted-next, refused-next}
+use Rattle.register.proofs.FilingLaws.{Passed, passed-none, passed-size, passed-all, passed-next, refusals-next, refusals-past, granted-low, granted-next, refused-next}
 use Rattle.register.proofs.filing.file_lines.Statement.{statement}
 use Rattle.register.proofs.filing.file_lines.Tie as tie
 
@@ -51,9 +51,9 @@ loop-again c =
           (c .if2 .came))
           (⊎-elim
           (λ w.
-          told-next _ _ _ (p .refusals) _ _ _ _ (p .count) (ap (λ (a : Filed). a .refusal) (filed .ensures .0)) (w .0 .taken)
+          refusals-next _ _ _ (p .refusals) _ _ _ _ (p .count) (ap (λ (a : Filed). a .refusal) (filed .ensures .0)) (w .0 .taken)
           (w .1))
-          (λ w. told-past _ _ _ (p .refusals) _ _ _ (p .count) (w .0 .left) (w .1))
+          (λ w. refusals-past _ _ _ (p .refusals) _ _ _ (p .count) (w .0 .left) (w .1))
           (c .before .before .if1 .came))
           refl,
     )

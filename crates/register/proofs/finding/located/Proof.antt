@@ -6,7 +6,7 @@ use Rattle.register.proofs.finding.located.Statement.{statement}
 use Rattle.register.proofs.finding.located.Tie as tie
 
 returns : tie.Need-returns
-returns c = c .absent .ensures ∙ sym (unchecked _ _ _ (c .before .before .before .check .ensures) _ (c .before .if1 .taken))
+returns c = c .not-found .ensures ∙ sym (unchecked _ _ _ (c .before .before .before .check .ensures) _ (c .before .if1 .taken))
 
 last-with-requires : tie.Need-last-with-requires
 last-with-requires c κs =
@@ -15,7 +15,7 @@ last-with-requires c κs =
 returns-2 : tie.Need-returns-2
 returns-2 c =
     let k = c .before .before .before in
-    c .absent2 .ensures
+    c .not-found2 .ensures
     ∙ sym (nowhere _ _ _ (k .before .before .check .ensures) (k .if1 .left) _ _ (c .before .before .last-with .ensures) (c .before .if2 .taken))
 
 returns-3 : tie.Need-returns-3
