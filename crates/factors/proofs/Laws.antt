@@ -1,14 +1,14 @@
 -- Laws of the factors for the crates above: the ranges of both tables, that a reduction never adds, and that the
 -- effective factor of terms within document 01's lists lies between 5 and 80. Assumes nothing.
-use mathlib.Core.Path.{_≡_, refl, sym, _∙_, subst, ap}
+use mathlib.Core.Path.{_≡_, refl}
 use mathlib.Core.Bool.{Bool, true, false, _&&_}
-use mathlib.Core.List.{List, [], _∷_}
-use Prim.Native.Nat.{ℕ, _+_, _-_, _*_, _/_, _≤_, _<_}
-use native.Mathlib.Nat.{mul-le-mul, mul-le-mul-left, le-of-lt, div-le-of-le-mul}
+use mathlib.Core.List.{List}
+use Prim.Native.Nat.{ℕ, _-_, _*_, _≤_, _<_}
+use native.Mathlib.Nat.{mul-le-mul-left, le-of-lt, div-le-of-le-mul}
 use native.Mathlib.Decide.{decLt}
 use native.Mathlib.Omega.{arith}
-use lib.Dec.{leb, ltb, eqb}
-use lib.ListN.{getD, List·getD-eq-default}
+use lib.Dec.{leb, eqb}
+use lib.ListN.{List·getD-eq-default}
 use borrow.Author.Tests.{leb-true, le-leb, eqb-true, eqb-false}
 use Rattle.calendar.proofs.Laws.{and-left, and-right}
 use Rattle.factors.specs.declared.effective.Factor.{Factor}

@@ -1,26 +1,35 @@
--- The C interface: four shares side by side, and a line found as the bytes that the engine's own call hands back.
+-- The C interface: the shares' figures stored side by side, and a line found as the bytes that the engine's own call hands back.
 -- Assumes nothing.
-use Prim.Native.Nat.{ℕ}
+use Prim.Native.Nat.{ℕ, _+_, _≤_, _<_}
 use mathlib.Core.Bool.{Bool}
-use mathlib.Core.List.{List, [], _∷_, map}
-use mathlib.Core.Path.{_≡_, _∙_, ap}
+use mathlib.Core.List.{List, map}
+use mathlib.Core.Path.{_≡_, refl, sym, _∙_, ap}
 use native.Mathlib.Omega.{arith}
-use lib.ListN.{length, getD, take, drop}
+use lib.ListN.{length, getD, take, drop, set, length-set}
+use lib.Seq.{take-all}
+use Rattle.split.proofs.ListLaws.{map-stored}
 use Rattle.register.specs.declared.answers.Located.{Located}
 use Rattle.register.specs.Find.{findLine, locate}
 use Rattle.register.proofs.FindingLaws.{located-within}
 use Rattle.host.specs.declared.answers.PensionFound.{PensionFound}
 use Rattle.host.specs.Interface.{foundForC}
 
--- a list of four, element by element
-pub four : {A : Type 0} (f : A → ℕ) (l : List A) (d : A) (r : List ℕ) → length l ≡ 4
-    → r ≡ (f (getD l 0 d) ∷ f (getD l 1 d) ∷ f (getD l 2 d) ∷ f (getD l 3 d) ∷ []) → r ≡ map f l
-four f [] d r e made = absurd (omega arith)
-four f (a ∷ []) d r e made = absurd (omega arith)
-four f (a ∷ b ∷ []) d r e made = absurd (omega arith)
-four f (a ∷ b ∷ x ∷ []) d r e made = absurd (omega arith)
-four f (a ∷ b ∷ x ∷ y ∷ []) d r e made = made
-four f (a ∷ b ∷ x ∷ y ∷ z ∷ l) d r e made = absurd (omega arith)
+-- of four elements the first i have their figure in an array
+pub record Filled {A : Type 0} (f : A → ℕ) (xs : List A) (figures : List ℕ) (i : ℕ) : Type 0 where
+  pub size : length figures ≡ 4
+  pub part : take i figures ≡ map f (take i xs)
+
+-- one more, and all
+module _ {A : Type 0} {f : A → ℕ} {xs : List A} {figures : List ℕ} {i : ℕ} (filled : Filled f xs figures i) (four : length xs ≡ 4) where
+  pub filled-more : (d : A) → i < 4 → Filled f xs (set figures i (f (getD xs i d))) (i + 1)
+  filled-more d h = record {
+    size = simp length-set (filled .size);
+    part = map-stored f xs figures i d (f (getD xs i d)) (omega arith) (omega (arith, filled .size)) (filled .part) refl;
+  }
+
+  pub filled-all : i ≤ 4 → 4 ≤ i → figures ≡ map f xs
+  filled-all h g =
+      sym (take-all i figures (omega (arith, filled .size))) ∙ filled .part ∙ ap (map f) (take-all i xs (omega arith))
 
 -- where a line is found is where its bytes are
 pub found-bytes : (f : List ℕ → Bool) (s : List ℕ) (used : ℕ) (at : Located) (r : PensionFound)

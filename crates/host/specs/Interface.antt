@@ -22,14 +22,18 @@ quoteForC q = record {
   second = map (λ s. s .second .0) (q .shares);
 }
 
+-- the check of a register
 unfoldable pub checkedForC : Checked → PensionChecked
 checkedForC k = record { refusal = k .refusal; offset = k .offset }
 
+-- a filing
 unfoldable pub filedForC : Filed → PensionFiled
 filedForC f = record { refusal = f .refusal; used = f .used }
 
+-- filings of the lines of a text
 unfoldable pub filedLinesForC : FiledLines → PensionFiledLines
 filedLinesForC f = record { used = f .used; lines = f .lines }
 
+-- where a line was found
 unfoldable pub foundForC : Located → PensionFound
 foundForC l = record { refusal = l .refusal; offset = l .offset; length = l .length }

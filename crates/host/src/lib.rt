@@ -1,5 +1,5 @@
-// The C interface: quoting, checking, filing and finding under their C names, with the same promises. A slice passes as a pointer and a
-// length. host/include/pension.h declares these for C.
+// The C interface: quoting, checking, filing and finding under their C names, with the same promises. A slice passes as a
+// pointer and a length. host/include/pension.h declares these for C.
 mod answers;
 
 use answers::PensionChecked;
@@ -11,7 +11,6 @@ use register::answers::Filed;
 use register::answers::Located;
 use split::shares::Quote;
 ghost use mathlib.Core.Path.{_≡_};
-ghost use mathlib.Core.List.{[], _∷_};
 ghost use lib.ListN.{length, take, drop};
 ghost use Rattle.split.specs.Quote.{quoteOf};
 ghost use Rattle.register.specs.Check.{checkOf};
@@ -20,29 +19,30 @@ ghost use Rattle.register.specs.File.{fileAnswer, bytesAfter, answersOf, buffer
 ghost use Rattle.register.specs.Text.{textLines, refusalBytes, filedLines, FiledAll};
 ghost use Rattle.host.specs.Interface.{quoteForC, checkedForC, filedForC, filedLinesForC, foundForC};
 
-// Four amounts in the width that C has them.
-fn amounts(first: u32, second: u32, third: u32, fourth: u32) -> [u64; 4]
-    ensures { λ r. ⌜ r ≡ first ∷ second ∷ third ∷ fourth ∷ [] ⌝ }
-{
-    [first as u64, second as u64, third as u64, fourth as u64]
-}
-
+// The figures of a quote's four shares side by side, in the width that C has them.
 fn quote_for_c(quote: Quote) -> PensionQuote
     requires { ⌜ length (quote .shares) ≡ 4 ⌝ }
     ensures { λ r. ⌜ r ≡ quoteForC quote ⌝ }
 {
     let shares = quote.shares;
-    let a = shares[0];
-    let b = shares[1];
-    let c = shares[2];
-    let d = shares[3];
+    let mut lump = [0u64; 4];
+    let mut remaining = [0u64; 4];
+    let mut second = [0u64; 4];
+    let mut i = 0;
+    while i < 4 {
+        let share = shares[i];
+        lump[i] = share.lump.0 as u64;
+        remaining[i] = share.remaining.0 as u64;
+        second[i] = share.second.0 as u64;
+        i += 1;
+    }
     PensionQuote {
         refusal: quote.refusal as u32,
         member: quote.member,
         total: quote.total.0 as u64,
-        lump: amounts(a.lump.0, b.lump.0, c.lump.0, d.lump.0),
-        remaining: amounts(a.remaining.0, b.remaining.0, c.remaining.0, d.remaining.0),
-        second: amounts(a.second.0, b.second.0, c.second.0, d.second.0),
+        lump,
+        remaining,
+        second,
     }
 }
 

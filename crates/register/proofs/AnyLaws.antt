@@ -1,12 +1,13 @@
 -- `any` of two lists one after the other, and by places: it holds where the test holds of some place, and only there.
 -- Each by induction on the list. Assumes nothing.
-use Prim.Native.Nat.{ℕ, zero, suc, _<_}
+use Prim.Native.Nat.{ℕ, suc, _<_}
 use mathlib.Core.Bool.{Bool, true, false, _&&_, _||_, or-assoc, false≢true}
 use mathlib.Core.List.{List, [], _∷_, _++_}
 use mathlib.Core.Path.{_≡_, refl, sym, _∙_, ap}
 use native.Mathlib.Omega.{arith}
 use lib.ListN.{length, getD}
 use Rattle.split.specs.Frame.{any}
+use Rattle.split.proofs.ListLaws.{any-none}
 
 pub any-append : {A : Type 0} (f : A → Bool) (l m : List A) → any f (l ++ m) ≡ (any f l || any f m)
 any-append f [] m = refl
@@ -22,13 +23,6 @@ pub both : (a b : Bool) → (a && b) ≡ true → (a ≡ true) × (b ≡ true)
 both true b e = (refl, e)
 both false b e = absurd (false≢true e)
 
--- where the test holds of none, it fails at each place
-pub any-none : {A : Type 0} (f : A → Bool) (l : List A) (i : ℕ) (d : A) → any f l ≡ false → i < length l
-    → f (getD l i d) ≡ false
-any-none f [] i d e h = absurd (omega arith)
-any-none f (x ∷ l) zero d e h = neither (f x) (any f l) e .0
-any-none f (x ∷ l) (suc i) d e h = any-none f l i d (neither (f x) (any f l) e .1) (omega arith)
-
 -- where it fails at each place, it holds of none
 pub none-any : {A : Type 0} (f : A → Bool) (l : List A) (d : A) → ((i : ℕ) → i < length l → f (getD l i d) ≡ false)
     → any f l ≡ false
@@ -42,4 +36,4 @@ some-any f l i d h t = go (any f l) refl
   where
     go : (b : Bool) → any f l ≡ b → any f l ≡ true
     go true e = e
-    go false e = absurd (false≢true (sym (any-none f l i d e h) ∙ t))
+    go false e = absurd (false≢true (sym (any-none f l d e i h) ∙ t))

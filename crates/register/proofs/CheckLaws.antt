@@ -3,16 +3,16 @@
 use Prim.Native.Nat.{ℕ, zero, suc, _+_, _-_, _*_, _/_, _≤_, _<_}
 use mathlib.Core.Bool.{false}
 use mathlib.Core.List.{List, [], _∷_, _++_, append-assoc}
-use mathlib.Core.Path.{_≡_, refl, _∙_}
+use mathlib.Core.Path.{_≡_, refl, _∙_, ap}
 use native.Mathlib.Decide.{decLt}
 use native.Mathlib.Nat.{mul-div-cancel, mul-mod-left, suc-mul}
 use native.Mathlib.Omega.{arith}
-use lib.ListN.{length, length-append}
+use lib.ListN.{length, drop, length-append}
 use lib.Seq.{take-at, drop-at}
 use borrow.Author.Tests.{lt-ltb, le-ltb}
 use Rattle.split.specs.declared.shares.Quote.{Quote}
 use Rattle.split.specs.Quote.{QuoteFits}
-use Rattle.register.specs.Line.{fieldWidths, numberWidth, textLength, lineLength, lineOf}
+use Rattle.register.specs.Line.{fieldWidths, numberWidth, textLength, lineLength, lineOf, numberIn}
 use Rattle.register.specs.Check.{linesOf, badAt, firstBad, wrongNumber, lineFault, badUsed}
 use Rattle.register.specs.Ledger.{bytesOf}
 use Rattle.register.proofs.LineLaws.{line-digit, line-end, number-back}
@@ -37,6 +37,19 @@ first-good l i zero good = omega arith
 first-good l i (suc n) good =
     simp (good i (omega arith)) (omega (arith, first-good l (suc i) n (λ j h. good j (omega arith))))
 
+-- a line without a bad character whose number is the expected one has no fault
+pub faultless : (l : List ℕ) (expected : ℕ) → ((i : ℕ) → i < lineLength → badAt l i ≡ false)
+    → wrongNumber expected (numberIn l) ≡ false → lineFault expected l ≡ lineLength
+unfolding lineFault
+faultless l expected good right =
+    simp (
+      first-good l 0 numberWidth (λ j h. good j (omega (arith, number-inside))),
+      le-ltb (0 + numberWidth) numberWidth (omega arith),
+      right,
+    )
+    (first-good l numberWidth (lineLength - numberWidth) (λ j h. good j (omega (arith, number-inside)))
+    ∙ omega (arith, number-inside))
+
 module _ (k : ℕ) (q : Quote) (fits : QuoteFits q) where
   -- no character of a written line is bad
   line-good : (i : ℕ) → i < lineLength → badAt (lineOf k q) i ≡ false
@@ -49,18 +62,16 @@ module _ (k : ℕ) (q : Quote) (fits : QuoteFits q) where
             simp (e, le-ltb textLength textLength (omega arith), line-end k q fits)
       ]
 
-  -- a line whose number is the expected one has no fault
+  -- nor has it a fault where its number is the expected one
   pub line-faultless : k < 4294967296 → (expected : ℕ) → wrongNumber expected k ≡ false → lineFault expected (lineOf k q) ≡ lineLength
-  unfolding lineFault
   line-faultless low expected right =
-      simp (
-        first-good (lineOf k q) 0 numberWidth (λ j h. line-good j (omega (arith, number-inside))),
-        le-ltb (0 + numberWidth) numberWidth (omega arith),
-        number-back k q low fits,
-        right,
-      )
-      (first-good (lineOf k q) numberWidth (lineLength - numberWidth) (λ j h. line-good j (omega (arith, number-inside)))
-      ∙ omega (arith, number-inside))
+      faultless (lineOf k q) expected line-good (rw (number-back k q low fits) right)
+
+-- so many lines are cut as are asked for
+pub cut-count : (n : ℕ) (s : List ℕ) → length (linesOf n s) ≡ n
+unfolding linesOf
+cut-count zero s = refl
+cut-count (suc n) s = ap suc (cut-count n (drop lineLength s))
 
 -- every line of a list is as long as a line
 abbrev pub Lines : List (List ℕ) → Type 0

@@ -14,10 +14,11 @@ use lib.ListN.{length, getD, take, drop, length-take, length-drop}
 use lib.Seq.{getD-take, getD-drop, drop-drop}
 use borrow.Author.Tests.{lt-ltb, le-ltb, ltb-false, eqb-true, eq-eqb, not-false, not-true}
 use Rattle.split.specs.Frame.{hexValue, badCharacter, digitAt, numberAt}
+use Rattle.split.proofs.ListLaws.{any-none}
 use Rattle.register.specs.Line.{fieldWidths, numberWidth, textLength, lineLength, figuresIn, numberIn}
 use Rattle.register.specs.Check.{linesOf, badAt, firstBad, wrongNumber, lineFault, sound, unsound, checkLines, badUsed, checkOf}
-use Rattle.register.proofs.AnyLaws.{neither, both, any-none}
-use Rattle.register.proofs.CheckLaws.{number-inside}
+use Rattle.register.proofs.AnyLaws.{neither, both}
+use Rattle.register.proofs.CheckLaws.{number-inside, faultless}
 
 pub line-length-is : lineLength ≡ 121
 unfolding lineLength textLength fieldWidths
@@ -46,7 +47,7 @@ field-at s at o (suc n) h =
       add-assoc,
     )
 
-number-line : (s : List ℕ) (at : ℕ) → numberIn (lineAt s at) ≡ numberAt s at 8
+pub number-line : (s : List ℕ) (at : ℕ) → numberIn (lineAt s at) ≡ numberAt s at 8
 unfolding numberIn figuresIn fieldWidths
 number-line s at = field-at s at 0 8 (omega (arith, line-length-is)) ∙ ap (λ (n : ℕ). numberAt s n 8) (add-zero at)
 
@@ -166,8 +167,8 @@ layout-good s at inside laid place h =
       | yes digit ↦
           simp (lt-ltb place textLength digit)
           (rw (getD-take textLength part place 0 digit, read) at
-          (any-none (λ (c : ℕ). eqb (hexValue c) 16) (take textLength part) place 0
-          (not-true (badCharacter (take textLength part)) (b .0))
+          (any-none (λ (c : ℕ). eqb (hexValue c) 16) (take textLength part) 0
+          (not-true (badCharacter (take textLength part)) (b .0)) place
           (simp (length-take, length-drop) (omega (arith, text-length-is)))))
       | no newline ↦
           let e : textLength ≡ place = omega (arith, text-length-is) in
@@ -197,12 +198,9 @@ module _ (s : List ℕ) (at expected : ℕ) where
       let inside : place < lineLength = omega (arith, line-length-is) in
       left ∙ fault-next expected (lineAt s at) place inside (right-line place right) (bad-line s at place inside ∙ b)
 
-  -- where no character is bad and the number is right, the fault is the one from any place on
-  left-all : ((place : ℕ) → place < 121 → badCharacterAt place (getD s (at + place) 0) ≡ false)
-      → wrongNumber expected (numberAt s at 8) ≡ false → (k : ℕ) → k ≤ 121 → Left k
-  left-all good right zero h = left-start
-  left-all good right (suc k) h =
-      rw add-one at (left-next k (omega arith) (λ _. right) (good k (omega arith)) (left-all good right k (omega arith)))
+  -- past the last character there is no fault
+  pub left-end : (place : ℕ) → place ≡ 121 → Left place → lineFault expected (lineAt s at) ≡ lineLength
+  left-end place e left = left ∙ fault-end expected (lineAt s at) place (e ∙ sym line-length-is)
 
   -- the number by the test of it, where the place is the number's and in general
   module _ (number : ℕ) (wrong : Bool) (read : number ≡ numberAt s at 8) (tested : wrong ≡ wrongNumber expected number) where
@@ -219,12 +217,14 @@ module _ (s : List ℕ) (at expected : ℕ) where
         (eqb-true place 8 (b .0), same-test ∙ b .1)
 
     -- a line that passes both tests at once has no fault
-    pub left-whole : at + 121 ≤ length s → (whole : Bool)
+    pub line-whole : at + 121 ≤ length s → (whole : Bool)
         → whole ≡ (not (badCharacter (take textLength (take (at + 121 - at) (drop at s)))) && eqb (getD (take (at + 121 - at) (drop at s)) textLength 0) 10)
-        → (wrong || not whole) ≡ false → Left 121
-    left-whole inside whole laid passed =
+        → (wrong || not whole) ≡ false → lineFault expected (lineAt s at) ≡ lineLength
+    line-whole inside whole laid passed =
         let n = neither wrong (not whole) passed in
-        left-all (λ place h. layout-good s at inside (sym laid ∙ not-false whole (n .1)) place h) (same-test ∙ n .0) 121 (omega arith)
+        faultless (lineAt s at) expected
+        (λ i h. bad-line s at i h ∙ layout-good s at inside (sym laid ∙ not-false whole (n .1)) i (omega (arith, line-length-is)))
+        (simp number-line (same-test ∙ n .0))
 
 module _ (s : List ℕ) (used at expected : ℕ) where
   pub check-done : used ≤ at → checkLines expected at (linesLeft s used at) ≡ sound
@@ -259,14 +259,14 @@ module _ (s : List ℕ) (used at expected : ℕ) where
         ∙ fault-here expected (lineAt s at) place inside (right-line s at expected place right) (bad-line s at place inside ∙ b))
         h
 
-    pub check-on : (place number : ℕ) → place ≡ 121 → number ≡ numberAt s at 8 → Left s at expected place
+    pub check-on : (number : ℕ) → number ≡ numberAt s at 8 → lineFault expected (lineAt s at) ≡ lineLength
         → checkLines expected at (linesLeft s used at)
         ≡ checkLines (number + 1) (at + 121) (linesLeft s used (at + 121))
     unfolding checkLines
-    check-on place number e read left =
+    check-on number read faulted =
         simp (
           lines-next s used at inside-used,
-          left ∙ fault-end expected (lineAt s at) place (e ∙ sym line-length-is),
+          faulted,
           le-ltb lineLength lineLength (omega arith),
           number-line,
           read,
@@ -281,10 +281,14 @@ used-sound buffer used e =
     (ltb-false buffer used (n .0), eqb-true (used % lineLength) 0 (not-false (eqb (used % lineLength) 0) (n .1)))
 
 -- a register without a fault has a good used length
-pub check-used : (s : List ℕ) (used : ℕ) → checkOf s used .refusal ≡ 0 → badUsed (length s) used ≡ false
+check-used : (s : List ℕ) (used : ℕ) → checkOf s used .refusal ≡ 0 → badUsed (length s) used ≡ false
 unfolding checkOf
 check-used s used = go (badUsed (length s) used)
   where
     go : (b : Bool) → cond b (unsound used) (checkLines 0 0 (linesOf (used / lineLength) s)) .refusal ≡ 0 → b ≡ false
     go true e = absurd (omega arith)
     go false e = refl
+
+-- so it lies in the buffer and is whole lines
+pub used-inside : (s : List ℕ) (used : ℕ) → checkOf s used .refusal ≡ 0 → (used ≤ length s) × (used % lineLength ≡ 0)
+used-inside s used e = used-sound (length s) used (check-used s used e)

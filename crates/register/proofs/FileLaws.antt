@@ -13,12 +13,12 @@ use borrow.Author.Tests.{eqb-true, eqb-false, ltb-false}
 use Rattle.split.specs.Frame.{any}
 use Rattle.split.specs.Refusal.{refusalOf, lowest}
 use Rattle.split.specs.Quote.{quoteOf}
+use Rattle.split.proofs.ListLaws.{any-none}
 use Rattle.split.proofs.QuoteLaws.{quote-fits}
 use Rattle.register.specs.Line.{lineLength, lineOf}
 use Rattle.register.specs.Check.{linesOf, checkLines, checkOf, badUsed}
 use Rattle.register.specs.File.{nextNumber, firstNumber, noSpace, lastTaken, fileRefusal, fileAnswer, usedAfter, bytesAfter, answersOf, bufferOf, usedOf}
 use Rattle.register.specs.Ledger.{bytesOf, ledgerRefusal, ledgerAfter, ledgerAnswer, ledgerAnswers, ledgerLines}
-use Rattle.register.proofs.AnyLaws.{any-none}
 use Rattle.register.proofs.LineLaws.{line-length}
 use Rattle.register.proofs.CheckLaws.{Lines, line-positive, used-lines, used-good}
 
@@ -80,11 +80,11 @@ granted buffer ls c e = go (eqb (refusalOf c) 0) refl (eqb-true (ledgerRefusal b
             arith,
             line-positive,
             ltb-false (buffer - usedBy ls) lineLength
-                (any-none (λ (b : Bool). b) states 1 false (lowest-none 10 states f) (omega arith)),
+                (any-none (λ (b : Bool). b) states false (lowest-none 10 states f) 1 (omega arith)),
           );
       free =
           eqb-false (nextNumber firstNumber ls) 4294967296
-          (any-none (λ (b : Bool). b) states 2 false (lowest-none 10 states f) (omega arith));
+          (any-none (λ (b : Bool). b) states false (lowest-none 10 states f) 2 (omega arith));
     }
     go false z f = absurd (eqb-false (refusalOf c) 0 z f)
 

@@ -1,36 +1,36 @@
 -- Filing: the next number is the last line's plus one; in a sound register a filing's answer and bytes by its refusals; and
 -- a text cut into lines, filed one after the other: what the lines passed have left is the register that the list claim
 -- speaks of, so it is sound, and its next number counts its lines. Assumes nothing.
-use Prim.Native.Nat.{ℕ, zero, suc, _+_, _-_, _*_, _/_, _%_, _≤_, _<_, min}
+use Prim.Native.Nat.{ℕ, zero, suc, _+_, _-_, _*_, _/_, _%_, _≤_, _<_}
 use mathlib.Core.Bool.{Bool, true, false, cond}
 use mathlib.Core.List.{List, [], _∷_, _++_, append-nil, append-assoc}
 use mathlib.Core.Path.{_≡_, refl, sym, _∙_, ap}
 use native.Mathlib.Decide.{decLt, ℕ-discrete}
-use native.Mathlib.Nat.{zero-mul, mul-div-cancel}
 use native.Mathlib.Omega.{arith}
 use lib.Dec.{eqb, ltb}
 use lib.ListN.{length, getD, take, drop, set, length-append, length-take, length-drop, drop-of-length-le}
 use lib.Seq.{getD-take, getD-drop, drop-drop}
 use borrow.Author.Tests.{eqb-true, eqb-false, eq-eqb, ne-eqb, lt-ltb, le-ltb}
-use Rattle.split.specs.Frame.{digitAt, numberAt}
+use Rattle.split.specs.Frame.{numberAt}
 use Rattle.split.specs.Refusal.{refusalOf}
 use Rattle.split.specs.Quote.{quoteOf}
 use Rattle.split.specs.declared.shares.Quote.{Quote}
+use Rattle.split.proofs.ListLaws.{any-none}
 use Rattle.split.proofs.QuoteLaws.{quote-fits, quote-refusal}
 use Rattle.register.specs.declared.answers.Checked.{Checked}
 use Rattle.register.specs.declared.answers.Filed.{Filed}
 use Rattle.register.specs.declared.answers.FiledLines.{FiledLines}
-use Rattle.register.specs.Ledger.{ledgerLines}
-use Rattle.register.specs.Line.{lineLength, lineOf, numberIn}
+use Rattle.register.specs.Line.{lineLength, lineOf}
 use Rattle.register.specs.Check.{linesOf, checkOf}
 use Rattle.register.specs.File.{nextNumber, firstNumber, fileRefusal, fileAnswer, usedAfter, bytesAfter, answersOf, bufferOf, usedOf}
 use Rattle.register.specs.Text.{linesWith, textLines, refusalBytes, filedLines, FiledAll}
 use Rattle.register.specs.Places.{Sound, Known, hasNewline, LineEnd}
-use Rattle.register.proofs.AnyLaws.{any-none}
-use Rattle.register.proofs.CheckLaws.{line-positive, bytes-length}
 use Rattle.register.proofs.ListClaims.{list-claim}
 use Rattle.register.proofs.WritingLaws.{line-121}
-use Rattle.register.proofs.SoundLaws.{sound-low, sound-next, number-field, used-inside, checked-sound}
+use Rattle.register.proofs.LedgerLaws.{next-more}
+use Rattle.register.proofs.CheckingLaws.{lineAt, number-line, used-inside}
+use Rattle.register.proofs.FindingLaws.{lines-snoc}
+use Rattle.register.proofs.SoundLaws.{sound-low, sound-next, checked-sound}
 
 -- one more character that is no newline
 pub unbroken-more : (text : List ℕ) (at end : ℕ) → ((j : ℕ) → at ≤ j → j < end → eqb (getD text j 0) 10 ≡ false)
@@ -55,7 +55,7 @@ unbroken-span text at end n inside before none j h g =
       | no l ↦
           let e : end + (j - end) ≡ j = omega arith in
           rw (getD-take (end + n - end) (drop end text) (j - end) 0 (omega arith), getD-drop, e) at
-          (any-none (λ (c : ℕ). eqb c 10) (take (end + n - end) (drop end text)) (j - end) 0 none
+          (any-none (λ (c : ℕ). eqb c 10) (take (end + n - end) (drop end text)) 0 none (j - end)
           (simp (length-take, length-drop) (omega arith)))
     ]
 
@@ -70,27 +70,11 @@ end-further text at mid end h before found = record {
 }
 
 -- the number after n + 1 lines is one more than the last
-number-take : (s : List ℕ) (n at k : ℕ) → at + k ≤ n → numberAt (take n s) at k ≡ numberAt s at k
-unfolding numberAt digitAt
-number-take s n at zero h = refl
-number-take s n at (suc k) h = simp (number-take s n at k (omega arith), getD-take n s (at + k) 0 (omega arith))
-
-number-drop : (s : List ℕ) (n at k : ℕ) → numberAt (drop n s) at k ≡ numberAt s (n + at) k
-unfolding numberAt digitAt
-number-drop s n at zero = refl
-number-drop s n at (suc k) =
-    let e : n + (at + k) ≡ (n + at) + k = omega arith in
-    simp (number-drop s n at k, getD-drop n s (at + k) 0, e)
-
-next-last : (s : List ℕ) (first n : ℕ) → nextNumber first (linesOf (suc n) s) ≡ numberAt s (n * lineLength) 8 + 1
-unfolding linesOf
-next-last s first zero =
-    rw zero-mul
-    (ap (λ (m : ℕ). m + 1) (number-field (take lineLength s) ∙ number-take s lineLength 0 8 (omega (arith, line-121))))
-next-last s first (suc n) =
-    next-last (drop lineLength s) (numberIn (take lineLength s) + 1) n
-    ∙ ap (λ (m : ℕ). m + 1)
-    (number-drop s lineLength (n * lineLength) 8 ∙ ap (λ (m : ℕ). numberAt s m 8) (omega (arith, line-121)))
+next-last : (s : List ℕ) (first n : ℕ) → nextNumber first (linesOf (suc n) s) ≡ numberAt s (lineLength * n) 8 + 1
+next-last s first n =
+    ap (nextNumber first) (lines-snoc n s)
+    ∙ next-more first (linesOf n s) (lineAt s (lineLength * n))
+    ∙ ap (λ (m : ℕ). m + 1) (number-line s (lineLength * n))
 
 -- the next number of a register that has no line, and of one that has
 pub next-none : (s : List ℕ) (used : ℕ) → used < 121 → 1 ≡ nextNumber firstNumber (linesOf (used / lineLength) s)
@@ -104,7 +88,7 @@ pub next-some : (s : List ℕ) (used : ℕ) → 121 ≤ used → used % lineLeng
 next-some s used h whole =
     let r : used % 121 ≡ 0 = rw line-121 at whole in
     let e : used / lineLength ≡ suc (used / 121 - 1) = rw line-121 (omega arith) in
-    let p : (used / 121 - 1) * lineLength ≡ used - 121 = rw line-121 (omega arith) in
+    let p : lineLength * (used / 121 - 1) ≡ used - 121 = rw line-121 (omega arith) in
     sym
     (ap (λ (n : ℕ). nextNumber firstNumber (linesOf n s)) e
     ∙ next-last s firstNumber (used / 121 - 1)

@@ -19,7 +19,8 @@ use Rattle.register.specs.Check.{linesOf, checkOf}
 use Rattle.register.specs.Find.{lastWhere, lastPlace, findRefusal, findLine, usedLines, locate}
 use Rattle.register.specs.Places.{hasField, LastAt}
 use Rattle.register.proofs.AnyLaws.{neither}
-use Rattle.register.proofs.CheckingLaws.{line-length-is, lineAt, field-at, used-sound, check-used}
+use Rattle.register.proofs.CheckLaws.{cut-count}
+use Rattle.register.proofs.CheckingLaws.{line-length-is, lineAt, field-at, used-inside}
 
 -- one line more at the end
 drop-line : (n : ℕ) (s : List ℕ) → drop (lineLength * n) (drop lineLength s) ≡ drop (lineLength * suc n) s
@@ -27,7 +28,7 @@ drop-line n s =
     drop-drop (lineLength * n) lineLength s
     ∙ ap (λ (m : ℕ). drop m s) (add-comm lineLength (lineLength * n) ∙ sym (mul-suc lineLength n))
 
-lines-snoc : (n : ℕ) (s : List ℕ) → linesOf (suc n) s ≡ linesOf n s ++ (lineAt s (lineLength * n) ∷ [])
+pub lines-snoc : (n : ℕ) (s : List ℕ) → linesOf (suc n) s ≡ linesOf n s ++ (lineAt s (lineLength * n) ∷ [])
 unfolding linesOf
 lines-snoc zero s = simp mul-zero
 lines-snoc (suc n) s =
@@ -65,11 +66,6 @@ place-snoc f (m ∷ ls) l = simp (any-snoc f ls l, place-snoc f ls l) (go (f l) 
     go false true = refl
     go false false = refl
 
-lines-count : (n : ℕ) (s : List ℕ) → length (linesOf n s) ≡ n
-unfolding linesOf
-lines-count zero s = refl
-lines-count (suc n) s = ap suc (lines-count n (drop lineLength s))
-
 -- what n lines answer, the first i of them answer
 pub record Same (f : List ℕ → Bool) (s : List ℕ) (n i : ℕ) : Type 0 where
   pub within : i ≤ n
@@ -90,7 +86,7 @@ module _ (f : List ℕ → Bool) (s : List ℕ) (n i : ℕ) (same : Same f s n i
     found = λ _. (
       same .line ∙ simp (parts h, last-snoc, t),
       same .some ∙ simp (parts h, any-snoc f (linesOf (i - 1) s) (lineAt s (lineLength * (i - 1))), t, or-true),
-      same .place ∙ simp (parts h, place-snoc, t, lines-count),
+      same .place ∙ simp (parts h, place-snoc, t, cut-count),
     );
     absent = λ a. absurd (omega arith);
   }
@@ -191,7 +187,7 @@ located-line f s used = go (eqb (checkOf s used .refusal) 0) refl (any f (usedLi
     go true good false e = record { inside = simp (good, e) (omega arith); line = simp (good, e) (sym (last-none f (usedLines s used) e)) }
     go true good true e =
         let last = last-line f (used / lineLength) s e in
-        let fits = used-sound (length s) used (check-used s used (eqb-true (checkOf s used .refusal) 0 good)) in
+        let fits = used-inside s used (eqb-true (checkOf s used .refusal) 0 good) in
         record {
           inside = simp (good, e) (last-inside (length s) used (lastPlace f (usedLines s used)) (fits .0) (last .0));
           line = simp (good, e) (sym (last .1));
@@ -221,7 +217,7 @@ module _ (s : List ℕ) (used : ℕ) (checked : Checked) (e : checked ≡ checkO
 
   module _ (good : checked .refusal ≡ 0) where
     pub inside : used ≤ length s
-    inside = used-sound (length s) used (check-used s used (same-check ∙ good)) .0
+    inside = used-inside s used (same-check ∙ good) .0
 
     pub room : used / 121 * lineLength ≤ length s
     room = rw line-length-is (omega (arith, inside))

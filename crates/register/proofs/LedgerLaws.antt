@@ -55,7 +55,7 @@ lines-sound n (c ∷ cs) expected at right low =
     (lines-sound (n + 1) cs (n + 1) (at + lineLength) (next-right n) (omega arith))
 
 -- the number after one more line
-next-more : (n : ℕ) (ls : List (List ℕ)) (l : List ℕ) → nextNumber n (ls ++ (l ∷ [])) ≡ numberIn l + 1
+pub next-more : (n : ℕ) (ls : List (List ℕ)) (l : List ℕ) → nextNumber n (ls ++ (l ∷ [])) ≡ numberIn l + 1
 next-more n [] l = refl
 next-more n (m ∷ ls) l = next-more (numberIn m + 1) ls l
 

@@ -12,8 +12,9 @@ use Rattle.split.specs.declared.shares.Share.{Share}
 use Rattle.split.specs.declared.shares.Quote.{Quote}
 use Rattle.split.specs.Frame.{hexValue, badCharacter}
 use Rattle.split.specs.Quote.{SharesFit, QuoteFits, lumpsIn as shareLumps}
+use Rattle.split.proofs.ListLaws.{any-none}
 use Rattle.register.specs.Line.{fieldWidths, widthOf, textLength, lineLength, hexText, fieldsText, shareFigures, figuresOf, lineOf, fieldsAt, figuresIn, numberIn, memberIn, totalIn, firstOfThree, lumpsInLine}
-use Rattle.register.proofs.AnyLaws.{any-append, any-none}
+use Rattle.register.proofs.AnyLaws.{any-append}
 use Rattle.register.proofs.HexLaws.{hex-length, hex-good, hex-back}
 
 -- fields of any widths: their text's length, that it is all digits, and that it is read back
@@ -88,8 +89,8 @@ module _ (k : ℕ) (q : Quote) (fits : QuoteFits q) where
   unfolding lineOf badCharacter
   line-digit i h =
       rw (List·getD-append (fieldsText fieldWidths (figuresOf k q)) (10 ∷ []) 0 i (omega (arith, text-length)))
-      (any-none (λ (c : ℕ). eqb (hexValue c) 16) (fieldsText fieldWidths (figuresOf k q)) i 0
-      (fields-good fieldWidths (figuresOf k q)) (omega (arith, text-length)))
+      (any-none (λ (c : ℕ). eqb (hexValue c) 16) (fieldsText fieldWidths (figuresOf k q)) 0
+      (fields-good fieldWidths (figuresOf k q)) i (omega (arith, text-length)))
 
   pub line-end : getD (lineOf k q) textLength 0 ≡ 10
   unfolding lineOf

@@ -1,8 +1,8 @@
 -- A sound register, whatever its first number: its used part is lines laid one after the other, and a filing that is not
 -- refused adds a line with the next number, so the register stays sound. By what the ledger does to those lines.
 -- Assumes nothing.
-use Prim.Native.Nat.{ℕ, zero, suc, _+_, _*_, _/_, _%_, _≤_, _<_}
-use mathlib.Core.Bool.{Bool, true, false, cond, not}
+use Prim.Native.Nat.{ℕ, zero, suc, _+_, _*_, _/_, _≤_, _<_}
+use mathlib.Core.Bool.{Bool, true, false, cond}
 use mathlib.Core.List.{List, [], _∷_, _++_, append-assoc}
 use mathlib.Core.Path.{_≡_, refl, sym, _∙_, ap}
 use native.Mathlib.Nat.{zero-mul, suc-mul, div-add-mod'}
@@ -10,19 +10,19 @@ use native.Mathlib.Omega.{arith}
 use lib.Dec.{eqb, ltb}
 use lib.ListN.{length, drop, length-drop, take-append-drop}
 use lib.Seq.{drop-drop, length-take-le}
-use borrow.Author.Tests.{eqb-true, eq-eqb, ltb-false, not-false, le-ltb}
+use borrow.Author.Tests.{eq-eqb, le-ltb}
 use Rattle.split.specs.Frame.{numberAt}
 use Rattle.split.specs.Quote.{quoteOf}
 use Rattle.split.proofs.FrameLaws.{number-below}
 use Rattle.split.proofs.QuoteLaws.{quote-fits}
 use Rattle.register.specs.declared.answers.Checked.{Checked}
 use Rattle.register.specs.Line.{fieldWidths, lineLength, lineOf, figuresIn, numberIn}
-use Rattle.register.specs.Check.{linesOf, wrongNumber, lineFault, unsound, checkLines, badUsed, checkOf}
+use Rattle.register.specs.Check.{linesOf, wrongNumber, lineFault, unsound, checkLines, checkOf}
 use Rattle.register.specs.File.{nextNumber, firstNumber, fileRefusal, usedAfter, bytesAfter}
 use Rattle.register.specs.Ledger.{bytesOf, ledgerRefusal, ledgerAfter}
 use Rattle.register.specs.Places.{Sound}
-use Rattle.register.proofs.AnyLaws.{neither}
-use Rattle.register.proofs.CheckLaws.{Lines, line-faultless, bytes-length}
+use Rattle.register.proofs.CheckLaws.{Lines, line-faultless, bytes-length, cut-count}
+use Rattle.register.proofs.CheckingLaws.{used-inside}
 use Rattle.register.proofs.FileLaws.{usedBy, laid, Held, granted, laid-lines, laid-check, laid-refusal, Follows, follows}
 use Rattle.register.proofs.LedgerLaws.{next-right, next-line}
 
@@ -36,22 +36,6 @@ next-low : (ls : List (List ℕ)) (first : ℕ) → first ≤ 4294967296 → nex
 next-low [] first h = h
 next-low (l ∷ ls) first h = next-low ls (numberIn l + 1) (omega (arith, number-field l, number-below l 0 8))
 
--- a used length that is not bad lies in the buffer and is a multiple of the line's length
-good-used : (buffer used : ℕ) → badUsed buffer used ≡ false → (used ≤ buffer) × (used % lineLength ≡ 0)
-unfolding badUsed
-good-used buffer used e =
-    let h = neither (ltb buffer used) (not (eqb (used % lineLength) 0)) e in
-    (ltb-false buffer used (h .0), eqb-true (used % lineLength) 0 (not-false (eqb (used % lineLength) 0) (h .1)))
-
--- and so does one that passed the check
-pub used-inside : (s : List ℕ) (used : ℕ) → checkOf s used .refusal ≡ 0 → (used ≤ length s) × (used % lineLength ≡ 0)
-unfolding checkOf
-used-inside s used e = go (badUsed (length s) used) refl
-  where
-    go : (b : Bool) → badUsed (length s) used ≡ b → (used ≤ length s) × (used % lineLength ≡ 0)
-    go true bad = let z : _≡_ {A = ℕ} 11 0 = simp bad at e in absurd (omega arith)
-    go false good = good-used (length s) used good
-
 -- a register that passed the check, with its next number, is sound
 pub checked-sound : (s : List ℕ) (used next : ℕ) → checkOf s used .refusal ≡ 0
     → next ≡ nextNumber firstNumber (linesOf (used / lineLength) s) → Sound s used next
@@ -62,14 +46,13 @@ pub sound-low : {s : List ℕ} {used next : ℕ} → Sound s used next → next 
 sound-low {s} {used} {next} sound =
     omega (arith, sound .numbered, next-low (linesOf (used / lineLength) s) firstNumber (omega arith))
 
--- lines cut from bytes that have so many are whole, and so many
-cut-whole : (n : ℕ) (s : List ℕ) → n * lineLength ≤ length s → Lines (linesOf n s) × (length (linesOf n s) ≡ n)
+-- lines cut from bytes that have so many are whole
+cut-whole : (n : ℕ) (s : List ℕ) → n * lineLength ≤ length s → Lines (linesOf n s)
 unfolding linesOf
-cut-whole zero s h = (tt, refl)
+cut-whole zero s h = tt
 cut-whole (suc n) s h =
     let g : lineLength + n * lineLength ≤ length s = omega (arith, suc-mul n lineLength) in
-    let rest = cut-whole n (drop lineLength s) (simp length-drop (omega arith)) in
-    ((length-take-le lineLength s (omega arith), rest .0), ap suc (rest .1))
+    (length-take-le lineLength s (omega arith), cut-whole n (drop lineLength s) (simp length-drop (omega arith)))
 
 -- lines cut from bytes, put together again before what was left, are those bytes
 cut-back : (n : ℕ) (s : List ℕ) → bytesOf (linesOf n s) ++ drop (n * lineLength) s ≡ s
@@ -143,9 +126,9 @@ sound-next s c used next sound given =
     let ls = linesOf (used / lineLength) s in
     let n : used / lineLength * lineLength ≡ used = omega (arith, used-inside s used (sound .checked), div-add-mod' used lineLength) in
     let whole = cut-whole (used / lineLength) s (omega (arith, sound .inside)) in
-    let u : usedBy ls ≡ used = bytes-length ls (whole .0) ∙ ap (λ (k : ℕ). k * lineLength) (whole .1) ∙ n in
+    let u : usedBy ls ≡ used = bytes-length ls whole ∙ ap (λ (k : ℕ). k * lineLength) (cut-count (used / lineLength) s) ∙ n in
     let b : laid s ls ≡ s = ap (λ (k : ℕ). bytesOf ls ++ drop k s) (u ∙ sym n) ∙ cut-back (used / lineLength) s in
     rw (sound .numbered)
     (rw (b, u) at
-    (laid-next s ls c (record { lines = whole .0; room = omega (arith, sound .inside) }) (rw (b, u) (sound .checked))
+    (laid-next s ls c (record { lines = whole; room = omega (arith, sound .inside) }) (rw (b, u) (sound .checked))
     (rw (b, u) given)))

@@ -1,15 +1,15 @@
 -- The ledger, which is the "plain book" of document 01, and the claim of demand 3 about a list of filings. It is fed the case
 -- line and the buffer's length, never the register's content; its state is a list of register lines. Assumes nothing.
-use Prim.Native.Nat.{ℕ, _+_, _%_, _<_}
-use mathlib.Core.Bool.{Bool, cond, not, _||_}
+use Prim.Native.Nat.{ℕ, _+_, _<_}
+use mathlib.Core.Bool.{cond, not, _||_}
 use mathlib.Core.List.{List, [], _∷_, _++_}
 use mathlib.Core.Path.{_≡_}
-use lib.Dec.{ltb, eqb}
+use lib.Dec.{eqb}
 use lib.ListN.{length, getD, drop}
 use Rattle.split.specs.Refusal.{refusalOf, lowest}
 use Rattle.split.specs.Quote.{quoteOf, BestLumps}
 use Rattle.register.specs.declared.answers.Filed.{Filed}
-use Rattle.register.specs.Line.{lineLength, lineOf, figuresOf, figuresIn, totalIn, lumpsInLine}
+use Rattle.register.specs.Line.{lineOf, figuresOf, figuresIn, totalIn, lumpsInLine}
 use Rattle.register.specs.Check.{badUsed, checkLines}
 use Rattle.register.specs.File.{nextNumber, firstNumber, noSpace, lastTaken}
 

@@ -21,7 +21,7 @@ ghost use Rattle.register.specs.Places.{Sound, Known, hasNewline, LineEn
 const SPAN: usize = 16;
 
 // Whether a register is sound, and its next number if it is.
-struct Opened {
+struct Inspected {
     pub sound: bool,
     pub next: u64,
 }
@@ -45,24 +45,24 @@ fn next_number(register: &[u8], used: usize) -> u64
 }
 
 // The check of a register, and its next number where it is sound.
-fn inspect(register: &[u8], used: usize) -> Opened
+fn inspect(register: &[u8], used: usize) -> Inspected
     ensures { λ r. ⌜ Known (now (register .entry)) used (r .sound) (r .next) ⌝ }
 {
     let checked = checking::check(register, used);
     if checked.refusal != 0 {
-        return Opened {
+        return Inspected {
             sound: false,
             next: 0,
         };
     }
-    Opened {
+    Inspected {
         sound: true,
         next: next_number(register, used),
     }
 }
 
 // Files the quote of an accepted case in a register of which it is known whether it is sound, and its next number.
-fn enter(register: &mut [u8], used: usize, known: Opened, quote: Quote) -> Filed
+fn enter(register: &mut [u8], used: usize, known: Inspected, quote: Quote) -> Filed
     requires { ⌜ Known (now register) used (known .sound) (known .next) × (length (quote .shares) ≡ 4) ⌝ }
     ensures { λ r. ⌜ ((c : List ℕ) → refusalOf c ≡ 0 → quote ≡ quoteOf c → (r ≡ fileAnswer (now (register .entry)) used c) × (now (register .exit) ≡ bytesAfter (now (register .entry)) used c)) ⌝ }
 {
@@ -84,7 +84,7 @@ fn enter(register: &mut [u8], used: usize, known: Opened, quote: Quote) -> Filed
 }
 
 // Files a case in a register of which it is known whether it is sound, and its next number.
-fn file_known(register: &mut [u8], used: usize, known: Opened, line: &[u8]) -> Filed
+fn file_known(register: &mut [u8], used: usize, known: Inspected, line: &[u8]) -> Filed
     requires { ⌜ Known (now register) used (known .sound) (known .next) ⌝ }
     ensures { λ r. ⌜ (r ≡ fileAnswer (now (register .entry)) used (now (line .entry))) × (now (register .exit) ≡ bytesAfter (now (register .entry)) used (now (line .entry))) ⌝ }
 {

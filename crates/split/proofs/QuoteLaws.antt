@@ -219,34 +219,39 @@ quote-best s e =
     (λ ne. absurd (ne e))
 
 -- a line with a bad character is refused
-pub quote-misspelt : (s : List ℕ) (q : Quote) → badCharacter s ≡ true → q ≡ refusedQuote 1 → q ≡ quoteOf s
+pub quote-bad-character : (s : List ℕ) (q : Quote) → badCharacter s ≡ true → q ≡ refusedQuote 1 → q ≡ quoteOf s
 unfolding refusalOf
-quote-misspelt s q bad made = made ∙ refused-as s 1 (λ e. omega arith) (simp (refusalOf, bad))
+quote-bad-character s q bad made = made ∙ refused-as s 1 (λ e. omega arith) (simp (refusalOf, bad))
 
--- what the code has read of a line of digits, and the quote that it makes of it
-module _ (s : List ℕ) (h : Head) (spelt : badCharacter s ≡ false) (read : h ≡ headOf s) where
-  -- refused by its length
-  pub quote-mismeasured : (q : Quote) → badLength (length s) (h .count) ≡ true → q ≡ refusedQuote 2 → q ≡ quoteOf s
+-- refused by its length
+pub quote-bad-length : (s : List ℕ) (h : Head) → badCharacter s ≡ false → h ≡ headOf s → (q : Quote)
+    → badLength (length s) (h .count) ≡ true → q ≡ refusedQuote 2 → q ≡ quoteOf s
+unfolding refusalOf
+quote-bad-length s h digits read q bad made =
+    made ∙ refused-as s 2 (λ e. omega arith) (simp (refusalOf, digits, rw read at bad))
+
+-- what the code has read of a line of digits and of a right length, and the refusal of its case
+pub record Judged (s : List ℕ) (h : Head) (ps : List Pension) (refused : ℕ) : Type 0 where
+  pub digits : badCharacter s ≡ false
+  pub head : h ≡ headOf s
+  pub measured : badLength (length s) (h .count) ≡ false
+  pub taken : take (h .count) ps ≡ pensionsAt s (h .count)
+  pub lowest-of : refused ≡ lowest 3 (conditions h (take (h .count) ps))
+
+module _ {s : List ℕ} {h : Head} {ps : List Pension} {refused : ℕ} (judged : Judged s h ps refused) where
+  case-of : refusalOf s ≡ refused
   unfolding refusalOf
-  quote-mismeasured q bad made =
-      made ∙ refused-as s 2 (λ e. omega arith) (simp (refusalOf, spelt, rw read at bad))
+  case-of =
+      simp (refusalOf, judged .digits, rw (judged .head) at (judged .measured))
+      (sym (judged .lowest-of ∙ ap (λ (l : List Pension). lowest 3 (conditions h l)) (judged .taken)
+      ∙ ap (λ (k : Head). lowest 3 (conditions k (pensionsAt s (k .count)))) (judged .head)))
 
-  module _ (measured : badLength (length s) (h .count) ≡ false) (ps : List Pension)
-      (taken : take (h .count) ps ≡ pensionsAt s (h .count)) (refused : ℕ)
-      (case : refused ≡ lowest 3 (conditions h (take (h .count) ps))) where
-    case-of : refusalOf s ≡ refused
-    unfolding refusalOf
-    case-of =
-        simp (refusalOf, spelt, rw read at measured)
-        (sym (case ∙ ap (λ (l : List Pension). lowest 3 (conditions h l)) taken
-        ∙ ap (λ (k : Head). lowest 3 (conditions k (pensionsAt s (k .count)))) read))
+  -- refused by its case
+  pub quote-refused : (q : Quote) → (refused ≡ 0 → ⊥) → q ≡ refusedQuote refused → q ≡ quoteOf s
+  quote-refused q some made = made ∙ refused-as s refused some case-of
 
-    -- refused by its case
-    pub quote-cased : (q : Quote) → (refused ≡ 0 → ⊥) → q ≡ refusedQuote refused → q ≡ quoteOf s
-    quote-cased q no-case made = made ∙ refused-as s refused no-case case-of
-
-    -- granted
-    pub quote-made : (q : Quote) → refused ≡ 0 → q ≡ grantedQuote h (take (h .count) ps) → q ≡ quoteOf s
-    quote-made q passed made =
-        made ∙ ap (λ (l : List Pension). grantedQuote h l) taken
-        ∙ ap (λ (k : Head). grantedQuote k (pensionsAt s (k .count))) read ∙ granted-as s (case-of ∙ passed)
+  -- granted
+  pub quote-granted : (q : Quote) → refused ≡ 0 → q ≡ grantedQuote h (take (h .count) ps) → q ≡ quoteOf s
+  quote-granted q passed made =
+      made ∙ ap (λ (l : List Pension). grantedQuote h l) (judged .taken)
+      ∙ ap (λ (k : Head). grantedQuote k (pensionsAt s (k .count))) (judged .head) ∙ granted-as s (case-of ∙ passed)

@@ -2,8 +2,6 @@
 -- over the pensions of a case, as many as there are. A split is a list of natural numbers. Assumes nothing.
 use Prim.Native.Nat.{ℕ, _+_, _-_, _*_, _/_, _≤_}
 use mathlib.Core.List.{List, [], _∷_}
-use mathlib.Core.Path.{_≡_}
-use lib.ListN.{length}
 use Rattle.factors.specs.declared.effective.Factor.{Factor}
 use Rattle.split.specs.declared.limits.Benefit.{Benefit}
 

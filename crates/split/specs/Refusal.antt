@@ -1,7 +1,7 @@
 -- Refusals 1 to 10 ("Refusals from the input" of document 01): ten conditions in its order, of which the lowest that
 -- holds is the refusal. Conditions on a pension hold of a case where they hold of some pension. Assumes nothing.
 use Prim.Native.Nat.{ℕ, suc, _+_, _*_}
-use mathlib.Core.Bool.{Bool, true, false, cond, not, _&&_, _||_}
+use mathlib.Core.Bool.{Bool, cond, not, _&&_, _||_}
 use mathlib.Core.List.{List, [], _∷_}
 use lib.Dec.{leb, ltb, eqb}
 use lib.ListN.{length}

@@ -1,11 +1,11 @@
 -- `table_factor` is Table 1: antt computes the rule of the straight line at each of the 240 entries.
 use borrow.Author.Needs.{needs}
 use borrow.Author.Tests.{le-leb, lt-leb}
-use mathlib.Core.Path.{_≡_, sym, _∙_}
+use mathlib.Core.Path.{sym, _∙_}
 use Prim.Native.Nat.{_-_}
 use native.Mathlib.Omega.{arith}
 use Rattle.factors.specs.Commutation.{table1, straightLine, yearValues}
-use Rattle.factors.proofs.Table.{tabulate, tabulate-at}
+use Rattle.factors.proofs.Table.{tabulate-at}
 use Rattle.factors.proofs.commutation.table_factor.Statement.{statement}
 use Rattle.factors.proofs.commutation.table_factor.Tie as tie
 

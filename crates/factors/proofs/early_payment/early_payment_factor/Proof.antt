@@ -1,7 +1,6 @@
 -- `early_payment_factor` is Table A: each entry is the document's, and past the table it is 0.
 use borrow.Author.Needs.{needs}
 use mathlib.Core.Path.{refl, sym}
-use native.Mathlib.Omega.{arith}
 use lib.ListN.{List·getD-eq-default}
 use Rattle.factors.specs.EarlyPayment.{earlyPaymentFactor, tableA}
 use Rattle.factors.proofs.early_payment.early_payment_factor.Statement.{statement}

@@ -1,7 +1,6 @@
 -- `lump_top` is N; its two products are small.
 use borrow.Author.Needs.{needs}
 use native.Mathlib.Omega.{arith}
-use mathlib.Core.Path.{refl}
 use Rattle.factors.specs.Effective.{lumpTop}
 use Rattle.factors.proofs.effective.lump_top.Statement.{statement}
 use Rattle.factors.proofs.effective.lump_top.Tie as tie

@@ -1,7 +1,7 @@
 -- `check_lines` is the definition `checkLines`: the lines from `at` on answer for all; a line that passes the tests of its
 -- number and of all its characters has no fault, and of any other the characters from `place` on answer for it.
 use Prim.Native.Nat.{_+_, _-_, _/_, _%_, _≤_}
-use mathlib.Core.Path.{_≡_, refl, sym, _∙_}
+use mathlib.Core.Path.{_≡_, sym, _∙_}
 use mathlib.Core.Logic.{⊎-elim}
 use native.Mathlib.Nat.{sub-zero}
 use native.Mathlib.Omega.{arith}
@@ -9,7 +9,7 @@ use lib.ListN.{length-take, length-drop}
 use borrow.Author.Needs.{needs}
 use Rattle.register.specs.Line.{fieldWidths, textLength, lineLength}
 use Rattle.register.specs.Check.{linesOf, checkLines}
-use Rattle.register.proofs.CheckingLaws.{line-length-is, linesLeft, Left, Right, left-start, left-next, left-whole, right-passed, wrong-found, check-done, check-number, check-character, check-on}
+use Rattle.register.proofs.CheckingLaws.{line-length-is, linesLeft, Left, Right, left-start, left-next, left-end, line-whole, right-passed, wrong-found, check-done, check-number, check-character, check-on}
 use Rattle.register.proofs.checking.check_lines.Statement.{statement}
 use Rattle.register.proofs.checking.check_lines.Tie as tie
 
@@ -87,15 +87,13 @@ lines-again c =
       whole (n .before),
       omega arith,
       l .lines .inv .2
-          ∙ ⊎-elim
+          ∙ check-on s _ (l .lines .at) _ (whole (n .before)) (n .number-at .result) (n .number-at .ensures)
+          (⊎-elim
+          (λ b. left-end s (l .lines .at) _ (b .1 .place) (omega arith) (b .1 .inv .1))
           (λ b.
-          check-on s _ (l .lines .at) _ (whole (n .before)) (b .1 .place) (n .number-at .result) (omega arith)
-          (n .number-at .ensures) (b .1 .inv .1))
-          (λ b.
-          check-on s _ (l .lines .at) _ (whole (n .before)) 121 (n .number-at .result) refl (n .number-at .ensures)
-          (left-whole s (l .lines .at) _ _ _ (n .number-at .ensures) (w .is-wrong-number .ensures) (omega (arith, whole (n .before))) _
-          (c .before .has-layout .ensures) (b .left)))
-          (c .if2 .came),
+          line-whole s (l .lines .at) _ _ _ (n .number-at .ensures) (w .is-wrong-number .ensures) (omega (arith, whole (n .before))) _
+          (c .before .has-layout .ensures) (b .left))
+          (c .if2 .came)),
     )
 
 returns : tie.Need-returns Inv-loop μ-loop Inv-lines μ-lines

@@ -5,7 +5,7 @@ use native.Mathlib.Omega.{arith}
 use lib.Dec.{eqb}
 use lib.ListN.{getD}
 use borrow.Author.Needs.{needs}
-use Rattle.register.specs.Line.{fieldWidths, textLength, lineLength}
+use Rattle.register.specs.Line.{fieldWidths, textLength}
 use Rattle.register.proofs.CheckingLaws.{line-length-is}
 use Rattle.register.proofs.checking.has_layout.Statement.{statement}
 use Rattle.register.proofs.checking.has_layout.Tie as tie

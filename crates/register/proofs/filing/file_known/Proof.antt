@@ -1,9 +1,6 @@
 -- `file_known` is the definitions `fileAnswer` and `bytesAfter`: by the case's refusal, else by what `enter` ensures.
-use mathlib.Core.Path.{sym, _∙_, ap}
-use lib.ListN.{length}
+use mathlib.Core.Path.{sym, _∙_}
 use borrow.Author.Needs.{needs}
-use Rattle.split.specs.declared.shares.Quote.{Quote}
-use Rattle.split.proofs.QuoteLaws.{quote-fits}
 use Rattle.register.proofs.FilingLaws.{quote-says, case-refused, quote-whole}
 use Rattle.register.proofs.filing.file_known.Statement.{statement}
 use Rattle.register.proofs.filing.file_known.Tie as tie

@@ -6,7 +6,7 @@ use native.Mathlib.Omega.{arith}
 use lib.ListN.{length}
 use borrow.Author.Needs.{needs}
 use Rattle.register.specs.declared.answers.Filed.{Filed}
-use Rattle.register.specs.declared.filing.Opened.{Opened}
+use Rattle.register.specs.declared.filing.Inspected.{Inspected}
 use Rattle.register.proofs.FilingLaws.{Passed, passed-none, passed-size, passed-all, passed-next, refusals-next, refusals-past, granted-low, granted-next, refused-next}
 use Rattle.register.proofs.filing.file_lines.Statement.{statement}
 use Rattle.register.proofs.filing.file_lines.Tie as tie
@@ -44,10 +44,10 @@ loop-again c =
           (⊎-elim
           (λ w.
           granted-next _ _ _ _ _ (p .known) (filed .result) (filed .ensures .0) _ _ _ (w .0 .taken) (w .3)
-          (ap (λ (k : Opened). k .next) (w .2)) (ap (λ (k : Opened). k .sound) (w .2)))
+          (ap (λ (k : Inspected). k .next) (w .2)) (ap (λ (k : Inspected). k .sound) (w .2)))
           (λ w.
           refused-next _ _ _ _ _ (p .known) (filed .result) (filed .ensures .0) _ _ _ (w .0 .left) (w .2)
-          (ap (λ (k : Opened). k .next) (w .1)) (ap (λ (k : Opened). k .sound) (w .1)))
+          (ap (λ (k : Inspected). k .next) (w .1)) (ap (λ (k : Inspected). k .sound) (w .1)))
           (c .if2 .came))
           (⊎-elim
           (λ w.

@@ -2,7 +2,8 @@
 use mathlib.Core.Bool.{true≢false, false≢true}
 use mathlib.Core.Path.{sym, _∙_}
 use borrow.Author.Needs.{needs}
-use Rattle.register.proofs.SoundLaws.{used-inside, checked-sound}
+use Rattle.register.proofs.CheckingLaws.{used-inside}
+use Rattle.register.proofs.SoundLaws.{checked-sound}
 use Rattle.register.proofs.FilingLaws.{check-says}
 use Rattle.register.proofs.filing.inspect.Statement.{statement}
 use Rattle.register.proofs.filing.inspect.Tie as tie

@@ -1,9 +1,7 @@
 -- `found_line` is the definition `findLine`: the bytes where the line is located are the line found.
 use native.Mathlib.Omega.{arith}
 use borrow.Author.Needs.{needs}
-use Rattle.register.specs.declared.answers.Located.{Located}
-use Rattle.register.specs.Places.{hasField}
-use Rattle.register.proofs.FindingLaws.{Within, located-within, part-line}
+use Rattle.register.proofs.FindingLaws.{located-within, part-line}
 use Rattle.register.proofs.finding.found_line.Statement.{statement}
 use Rattle.register.proofs.finding.found_line.Tie as tie
 

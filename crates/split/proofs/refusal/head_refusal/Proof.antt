@@ -1,7 +1,6 @@
 -- `head_refusal`: the first test that passes is the lowest condition.
 use borrow.Author.Needs.{needs}
 use mathlib.Core.Path.{_≡_, sym, _∙_, ap}
-use mathlib.Core.Bool.{Bool}
 use Rattle.split.specs.Refusal.{ageOf, badAge}
 use Rattle.split.specs.Parts.{headConditions}
 use Rattle.split.proofs.refusal.head_refusal.Statement.{statement}
