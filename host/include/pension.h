@@ -1,7 +1,7 @@
 /*
  * pension.h - the retirement quotation engine for police pensions, for C.
  *
- * Link with libhost.a, which `rt staticlib host` writes to target/staticlib/.
+ * Link with libpension.a, which `rt staticlib pension` writes to target/staticlib/.
  *
  * What the engine is lent. Every pointer is lent for the length of the call
  * alone; nothing is kept afterwards. Each pointer must have its length in bytes

@@ -10,7 +10,7 @@ use native.Mathlib.Omega.{arith}
 use lib.ListN.{length, drop, length-append}
 use lib.Seq.{take-at, drop-at}
 use borrow.Author.Tests.{lt-ltb, le-ltb}
-use Rattle.split.specs.declared.shares.Quote.{Quote}
+use Rattle.split.specs.declared.answers.Quote.{Quote}
 use Rattle.split.specs.Quote.{QuoteFits}
 use Rattle.register.specs.Line.{fieldWidths, numberWidth, textLength, lineLength, lineOf, numberIn}
 use Rattle.register.specs.Check.{linesOf, badAt, firstBad, wrongNumber, lineFault, badUsed}

@@ -14,7 +14,7 @@ use borrow.Author.Tests.{eqb-true, eqb-false, eq-eqb, ne-eqb, lt-ltb, le-ltb}
 use Rattle.split.specs.Frame.{numberAt}
 use Rattle.split.specs.Refusal.{refusalOf}
 use Rattle.split.specs.Quote.{quoteOf}
-use Rattle.split.specs.declared.shares.Quote.{Quote}
+use Rattle.split.specs.declared.answers.Quote.{Quote}
 use Rattle.split.proofs.ListLaws.{any-none}
 use Rattle.split.proofs.QuoteLaws.{quote-fits, quote-refusal}
 use Rattle.register.specs.declared.answers.Checked.{Checked}

@@ -8,8 +8,8 @@ use native.Mathlib.Omega.{arith}
 use lib.Dec.{eqb}
 use lib.ListN.{length, getD, length-append, List·getD-append}
 use lib.Seq.{getD-at}
-use Rattle.split.specs.declared.shares.Share.{Share}
-use Rattle.split.specs.declared.shares.Quote.{Quote}
+use Rattle.split.specs.declared.answers.Share.{Share}
+use Rattle.split.specs.declared.answers.Quote.{Quote}
 use Rattle.split.specs.Frame.{hexValue, badCharacter}
 use Rattle.split.specs.Quote.{SharesFit, QuoteFits, lumpsIn as shareLumps}
 use Rattle.split.proofs.ListLaws.{any-none}

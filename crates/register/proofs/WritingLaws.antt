@@ -10,8 +10,8 @@ use native.Mathlib.Omega.{arith}
 use lib.ListN.{length, getD, drop, set, replicate, length-append, drop-of-length-le}
 use lib.Seq.{drop-cons, set-comm, sets, sets-eq}
 use borrow.Author.Tests.{lt-ltb, le-ltb}
-use Rattle.split.specs.declared.shares.Share.{Share}
-use Rattle.split.specs.declared.shares.Quote.{Quote}
+use Rattle.split.specs.declared.answers.Share.{Share}
+use Rattle.split.specs.declared.answers.Quote.{Quote}
 use Rattle.split.specs.Quote.{noShare}
 use Rattle.register.specs.Line.{fieldWidths, textLength, lineLength, hexCharacter, hexText, fieldsText, shareFigures, figuresOf, lineOf}
 use Rattle.register.proofs.HexLaws.{hex-length}

@@ -5,8 +5,8 @@ use mathlib.Core.Bool.{cond}
 use mathlib.Core.List.{List, [], _∷_, _++_}
 use lib.Dec.{ltb}
 use lib.ListN.{getD, drop}
-use Rattle.split.specs.declared.shares.Share.{Share}
-use Rattle.split.specs.declared.shares.Quote.{Quote}
+use Rattle.split.specs.declared.answers.Share.{Share}
+use Rattle.split.specs.declared.answers.Quote.{Quote}
 use Rattle.split.specs.Frame.{numberAt}
 
 -- "quote number 8, member 8, total lump 8, then four times (lump 8, remaining pension 8, second instalment 8)"

@@ -4,7 +4,7 @@ use crate::answers::FiledLines;
 use crate::checking;
 use crate::layout;
 use crate::layout::LINE_LENGTH;
-use split::shares::Quote;
+use split::answers::Quote;
 ghost use mathlib.Core.Path.{_≡_};
 ghost use mathlib.Core.List.{List};
 ghost use Prim.Native.Nat.{ℕ, _/_, _%_, _≤_, _<_};

@@ -1,5 +1,5 @@
 // A register line: fields of hexadecimal digits in their order, and a newline.
-use split::shares::Quote;
+use split::answers::Quote;
 ghost use mathlib.Core.Path.{_≡_};
 ghost use mathlib.Core.List.{List};
 ghost use Prim.Native.Nat.{ℕ, _+_, _≤_, _<_};

@@ -14,8 +14,8 @@ use lib.Seq.{take-at, drop-at}
 use borrow.Author.Tests.{eqb-true, eqb-false, ne-eqb, not-false}
 use Rattle.split.specs.declared.case.Head.{Head}
 use Rattle.split.specs.declared.case.Pension.{Pension}
-use Rattle.split.specs.declared.shares.Share.{Share}
-use Rattle.split.specs.declared.shares.Quote.{Quote}
+use Rattle.split.specs.declared.answers.Share.{Share}
+use Rattle.split.specs.declared.answers.Quote.{Quote}
 use Rattle.split.specs.Case.{headOf, pensionAt, pensionsAt, pensionsOf}
 use Rattle.split.specs.Frame.{badCharacter}
 use Rattle.split.specs.Refusal.{badLength, conditions, lowest, refusalOf}

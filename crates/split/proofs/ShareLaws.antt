@@ -17,7 +17,7 @@ use Rattle.split.specs.declared.case.Head.{Head}
 use Rattle.split.specs.declared.case.Pension.{Pension}
 use Rattle.split.specs.declared.limits.Benefit.{Benefit}
 use Rattle.split.specs.declared.grant.Row.{Row}
-use Rattle.split.specs.declared.shares.Share.{Share}
+use Rattle.split.specs.declared.answers.Share.{Share}
 use Rattle.split.specs.Case.{noPension}
 use Rattle.split.specs.Refusal.{ageOf, within, listedF1, noIncrease, listedIncrease, unlisted, conditions, lowest}
 use Rattle.split.specs.Benefits.{workedPension, factorOf, limitedLump, quarterLump, benefitOf, benefitsOf}

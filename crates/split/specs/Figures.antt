@@ -10,7 +10,7 @@ use Rattle.factors.specs.declared.effective.FactorTerms.{FactorTerms}
 use Rattle.factors.specs.Figures.{figures as tableFigures}
 use Rattle.split.specs.declared.case.Head.{Head}
 use Rattle.split.specs.declared.case.Pension.{Pension}
-use Rattle.split.specs.declared.shares.Share.{Share}
+use Rattle.split.specs.declared.answers.Share.{Share}
 use Rattle.split.specs.Benefits.{benefitOf}
 use Rattle.split.specs.Quote.{sharesOf, noShare, lumpsGranted}
 

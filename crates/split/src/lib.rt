@@ -1,16 +1,16 @@
 // The split: from the bytes of a case line to its refusal or its quote.
+pub mod answers;
 mod case;
 mod frame;
 mod grant;
 mod limits;
 mod quoting;
 mod refusal;
-pub mod shares;
 
+use answers::Quote;
 pub use frame::has_bad_character;
 pub use frame::hex_value;
 pub use frame::number_at;
-use shares::Quote;
 ghost use mathlib.Core.Path.{_≡_};
 ghost use Rattle.split.specs.Quote.{quoteOf};
 

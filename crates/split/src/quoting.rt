@@ -1,12 +1,12 @@
 // Making a quote: the lump sums granted, what remains of each pension, and the second instalments.
+use crate::answers::Quote;
+use crate::answers::Share;
 use crate::case::Head;
 use crate::case::Pension;
 use crate::grant;
 use crate::grant::Row;
 use crate::limits;
 use crate::limits::Benefit;
-use crate::shares::Quote;
-use crate::shares::Share;
 use factors::money::LumpPence;
 use factors::money::YearlyPence;
 ghost use mathlib.Core.Path.{_≡_};

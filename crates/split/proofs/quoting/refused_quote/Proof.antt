@@ -3,8 +3,8 @@ use Prim.Native.Nat.{ℕ}
 use mathlib.Core.Path.{_≡_}
 use lib.ListN.{replicate}
 use borrow.Author.Needs.{needs}
-use Rattle.split.specs.declared.shares.Share.{Share}
-use Rattle.split.specs.declared.shares.Quote.{Quote}
+use Rattle.split.specs.declared.answers.Share.{Share}
+use Rattle.split.specs.declared.answers.Quote.{Quote}
 use Rattle.split.specs.Quote.{noShare, refusedQuote}
 use Rattle.split.proofs.quoting.refused_quote.Statement.{statement}
 use Rattle.split.proofs.quoting.refused_quote.Tie as tie

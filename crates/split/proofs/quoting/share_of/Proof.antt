@@ -5,7 +5,7 @@ use borrow.Author.Needs.{needs}
 use Rattle.split.specs.declared.case.Head.{Head}
 use Rattle.split.specs.declared.case.Pension.{Pension}
 use Rattle.split.specs.declared.limits.Benefit.{Benefit}
-use Rattle.split.specs.declared.shares.Share.{Share}
+use Rattle.split.specs.declared.answers.Share.{Share}
 use Rattle.split.specs.Benefits.{benefitOf}
 use Rattle.split.specs.Quote.{remainingOf, secondOf, shareOf}
 use Rattle.split.proofs.quoting.share_of.Statement.{statement}

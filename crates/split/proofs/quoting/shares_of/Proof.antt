@@ -6,7 +6,7 @@ use native.Mathlib.Nat.{le-antisymm, le-of-lt, lt-of-lt-of-le, mul-le-mul-right}
 use native.Mathlib.Numerals.{add-one-le}
 use lib.ListN.{length, take, replicate}
 use mir.Facts.{fits-below}
-use Rattle.split.specs.declared.shares.Share.{Share}
+use Rattle.split.specs.declared.answers.Share.{Share}
 use Rattle.split.specs.Grant.{lumpsOf}
 use Rattle.split.specs.Quote.{sharesOf, noShare}
 use Rattle.split.proofs.ListLaws.{up-to, fewer}

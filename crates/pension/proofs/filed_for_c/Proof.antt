@@ -1,9 +1,9 @@
 -- `filed_for_c` is the definition `filedForC`, field by field.
 use mathlib.Core.Path.{refl}
 use borrow.Author.Needs.{needs}
-use Rattle.host.specs.Interface.{filedForC}
-use Rattle.host.proofs.filed_for_c.Statement.{statement}
-use Rattle.host.proofs.filed_for_c.Tie as tie
+use Rattle.pension.specs.Interface.{filedForC}
+use Rattle.pension.proofs.filed_for_c.Statement.{statement}
+use Rattle.pension.proofs.filed_for_c.Tie as tie
 
 returns : tie.Need-returns
 unfolding filedForC

@@ -11,8 +11,8 @@ use Rattle.split.proofs.ListLaws.{map-stored}
 use Rattle.register.specs.declared.answers.Located.{Located}
 use Rattle.register.specs.Find.{findLine, locate}
 use Rattle.register.proofs.FindingLaws.{located-within}
-use Rattle.host.specs.declared.answers.PensionFound.{PensionFound}
-use Rattle.host.specs.Interface.{foundForC}
+use Rattle.pension.specs.declared.answers.PensionFound.{PensionFound}
+use Rattle.pension.specs.Interface.{foundForC}
 
 -- of four elements the first i have their figure in an array
 pub record Filled {A : Type 0} (f : A → ℕ) (xs : List A) (figures : List ℕ) (i : ℕ) : Type 0 where

@@ -1,9 +1,9 @@
 -- `found_for_c` is the definition `foundForC`, field by field.
 use mathlib.Core.Path.{refl}
 use borrow.Author.Needs.{needs}
-use Rattle.host.specs.Interface.{foundForC}
-use Rattle.host.proofs.found_for_c.Statement.{statement}
-use Rattle.host.proofs.found_for_c.Tie as tie
+use Rattle.pension.specs.Interface.{foundForC}
+use Rattle.pension.proofs.found_for_c.Statement.{statement}
+use Rattle.pension.proofs.found_for_c.Tie as tie
 
 returns : tie.Need-returns
 unfolding foundForC

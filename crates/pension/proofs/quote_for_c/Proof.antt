@@ -3,12 +3,12 @@ use Prim.Native.Nat.{_-_, _≤_}
 use mathlib.Core.Path.{refl}
 use native.Mathlib.Omega.{arith}
 use borrow.Author.Needs.{needs}
-use Rattle.split.specs.declared.shares.Share.{Share}
+use Rattle.split.specs.declared.answers.Share.{Share}
 use Rattle.split.specs.Quote.{noShare}
-use Rattle.host.specs.Interface.{quoteForC}
-use Rattle.host.proofs.InterfaceLaws.{Filled, filled-more, filled-all}
-use Rattle.host.proofs.quote_for_c.Statement.{statement}
-use Rattle.host.proofs.quote_for_c.Tie as tie
+use Rattle.pension.specs.Interface.{quoteForC}
+use Rattle.pension.proofs.InterfaceLaws.{Filled, filled-more, filled-all}
+use Rattle.pension.proofs.quote_for_c.Statement.{statement}
+use Rattle.pension.proofs.quote_for_c.Tie as tie
 
 abbrev Inv-loop : tie.InvT-loop
 Inv-loop quote shares lump₀ remaining₀ second₀ i₀ lump remaining second i =

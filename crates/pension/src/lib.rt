@@ -9,7 +9,7 @@ use answers::PensionFound;
 use answers::PensionQuote;
 use register::answers::Filed;
 use register::answers::Located;
-use split::shares::Quote;
+use split::answers::Quote;
 ghost use mathlib.Core.Path.{_≡_};
 ghost use lib.ListN.{length, take, drop};
 ghost use Rattle.split.specs.Quote.{quoteOf};
@@ -17,7 +17,7 @@ ghost use Rattle.register.specs.Check.{checkOf};
 ghost use Rattle.register.specs.Find.{hasNumber, hasMember, findLine, locate};
 ghost use Rattle.register.specs.File.{fileAnswer, bytesAfter, answersOf, bufferOf};
 ghost use Rattle.register.specs.Text.{textLines, refusalBytes, filedLines, FiledAll};
-ghost use Rattle.host.specs.Interface.{quoteForC, checkedForC, filedForC, filedLinesForC, foundForC};
+ghost use Rattle.pension.specs.Interface.{quoteForC, checkedForC, filedForC, filedLinesForC, foundForC};
 
 // The figures of a quote's four shares side by side, in the width that C has them.
 fn quote_for_c(quote: Quote) -> PensionQuote

@@ -1,8 +1,8 @@
 -- `pension_find_member` gives where the engine's `locate_member` found the line, which is where its bytes are.
 use borrow.Author.Needs.{needs}
-use Rattle.host.proofs.InterfaceLaws.{found-bytes}
-use Rattle.host.proofs.pension_find_member.Statement.{statement}
-use Rattle.host.proofs.pension_find_member.Tie as tie
+use Rattle.pension.proofs.InterfaceLaws.{found-bytes}
+use Rattle.pension.proofs.pension_find_member.Statement.{statement}
+use Rattle.pension.proofs.pension_find_member.Tie as tie
 
 returns : tie.Need-returns
 returns c = found-bytes _ _ _ _ _ (c .before .locate-member .ensures) (c .found-for-c .ensures)

@@ -1,9 +1,9 @@
 -- `pension_check` gives what the engine's `check` found, field by field.
 use mathlib.Core.Path.{ap}
 use borrow.Author.Needs.{needs}
-use Rattle.host.specs.Interface.{checkedForC}
-use Rattle.host.proofs.pension_check.Statement.{statement}
-use Rattle.host.proofs.pension_check.Tie as tie
+use Rattle.pension.specs.Interface.{checkedForC}
+use Rattle.pension.proofs.pension_check.Statement.{statement}
+use Rattle.pension.proofs.pension_check.Tie as tie
 
 returns : tie.Need-returns
 unfolding checkedForC

@@ -1,9 +1,9 @@
 -- `pension_file` gives what the engine's `file` answered, and leaves the bytes that it left.
 use mathlib.Core.Path.{_∙_, ap}
 use borrow.Author.Needs.{needs}
-use Rattle.host.specs.Interface.{filedForC}
-use Rattle.host.proofs.pension_file.Statement.{statement}
-use Rattle.host.proofs.pension_file.Tie as tie
+use Rattle.pension.specs.Interface.{filedForC}
+use Rattle.pension.proofs.pension_file.Statement.{statement}
+use Rattle.pension.proofs.pension_file.Tie as tie
 
 returns : tie.Need-returns
 returns c =

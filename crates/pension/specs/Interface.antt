@@ -1,15 +1,15 @@
 -- The answers of the engine as the C interface gives them: the same numbers, field by field. Assumes nothing.
 use mathlib.Core.List.{map}
-use Rattle.split.specs.declared.shares.Quote.{Quote}
+use Rattle.split.specs.declared.answers.Quote.{Quote}
 use Rattle.register.specs.declared.answers.Checked.{Checked}
 use Rattle.register.specs.declared.answers.Filed.{Filed}
 use Rattle.register.specs.declared.answers.FiledLines.{FiledLines}
 use Rattle.register.specs.declared.answers.Located.{Located}
-use Rattle.host.specs.declared.answers.PensionQuote.{PensionQuote}
-use Rattle.host.specs.declared.answers.PensionChecked.{PensionChecked}
-use Rattle.host.specs.declared.answers.PensionFiled.{PensionFiled}
-use Rattle.host.specs.declared.answers.PensionFiledLines.{PensionFiledLines}
-use Rattle.host.specs.declared.answers.PensionFound.{PensionFound}
+use Rattle.pension.specs.declared.answers.PensionQuote.{PensionQuote}
+use Rattle.pension.specs.declared.answers.PensionChecked.{PensionChecked}
+use Rattle.pension.specs.declared.answers.PensionFiled.{PensionFiled}
+use Rattle.pension.specs.declared.answers.PensionFiledLines.{PensionFiledLines}
+use Rattle.pension.specs.declared.answers.PensionFound.{PensionFound}
 
 -- a quote, with the figures of its four shares side by side
 unfoldable pub quoteForC : Quote → PensionQuote

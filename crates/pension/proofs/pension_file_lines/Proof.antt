@@ -1,9 +1,9 @@
 -- `pension_file_lines` gives what the engine's `file_lines` answered, and leaves the bytes that it left.
 use mathlib.Core.Path.{ap}
 use borrow.Author.Needs.{needs}
-use Rattle.host.specs.Interface.{filedLinesForC}
-use Rattle.host.proofs.pension_file_lines.Statement.{statement}
-use Rattle.host.proofs.pension_file_lines.Tie as tie
+use Rattle.pension.specs.Interface.{filedLinesForC}
+use Rattle.pension.proofs.pension_file_lines.Statement.{statement}
+use Rattle.pension.proofs.pension_file_lines.Tie as tie
 
 returns : tie.Need-returns
 unfolding filedLinesForC

@@ -2,11 +2,11 @@
 use mathlib.Core.Path.{_∙_, ap}
 use lib.ListN.{length}
 use borrow.Author.Needs.{needs}
-use Rattle.split.specs.declared.shares.Quote.{Quote}
+use Rattle.split.specs.declared.answers.Quote.{Quote}
 use Rattle.split.proofs.QuoteLaws.{quote-fits}
-use Rattle.host.specs.Interface.{quoteForC}
-use Rattle.host.proofs.pension_quote.Statement.{statement}
-use Rattle.host.proofs.pension_quote.Tie as tie
+use Rattle.pension.specs.Interface.{quoteForC}
+use Rattle.pension.proofs.pension_quote.Statement.{statement}
+use Rattle.pension.proofs.pension_quote.Tie as tie
 
 quote-for-c-requires : tie.Need-quote-for-c-requires
 quote-for-c-requires c κs = ap (λ (q : Quote). length (q .shares)) (c .quote .ensures) ∙ quote-fits _ .four
