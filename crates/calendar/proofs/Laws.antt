@@ -10,6 +10,7 @@ use native.Mathlib.Omega.{arith}
 use lib.Dec.{leb, ltb, eqb}
 use borrow.Author.Tests.{ltb-true, eqb-true, leb-true, lt-ltb, le-ltb, eq-eqb}
 use Rattle.calendar.specs.declared.Date.{Date}
+use Rattle.calendar.proofs.TestLaws.{and-left, and-right, not-true-false}
 use Rattle.calendar.specs.Calendar.{beforeBy, earlier, inCalendar, yearIn, monthIn, dayIn, lengthIn, monthIndex, months, sixtiethBirthday}
 
 -- what `beforeBy` says
@@ -78,20 +79,6 @@ months-at-least a b = omega (arith, one (ltb (b .day) (a .day)))
 months-whole : (a b : Date) → a .day ≤ b .day → months a b ≡ monthIndex b - monthIndex a
 unfolding months
 months-whole a b h = simp (le-ltb (b .day) (a .day) h, sub-zero)
-
--- both parts of a test that holds
-pub and-left : (a b : Bool) → (a && b) ≡ true → a ≡ true
-and-left true b h = refl
-and-left false b h = h
-
-pub and-right : (a b : Bool) → (a && b) ≡ true → b ≡ true
-and-right true b h = h
-and-right false b h = absurd (false≢true h)
-
--- a test that cannot hold
-not-true-false : (b : Bool) → (b ≡ true → ⊥) → b ≡ false
-not-true-false true h = absurd (h refl)
-not-true-false false h = refl
 
 -- the ranges of a date of the calendar
 pub record InRange (d : Date) : Type 0 where

@@ -1,1 +1,3 @@
 pub mod Laws
+pub mod SumLaws
+pub mod TestLaws

@@ -1,2 +1,4 @@
 pub mod Calendar
 pub mod Figure
+pub mod Sums
+pub mod Tests

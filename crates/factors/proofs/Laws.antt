@@ -2,32 +2,26 @@
 -- effective factor of terms within document 01's lists lies between 5 and 80. Assumes nothing.
 use mathlib.Core.Path.{_≡_, refl}
 use mathlib.Core.Bool.{Bool, true, false, _&&_}
-use mathlib.Core.List.{List}
-use Prim.Native.Nat.{ℕ, _-_, _*_, _≤_, _<_}
+use Prim.Native.Nat.{ℕ, _-_, _≤_, _<_}
 use native.Mathlib.Nat.{mul-le-mul-left, le-of-lt, div-le-of-le-mul}
 use native.Mathlib.Decide.{decLt}
 use native.Mathlib.Omega.{arith}
 use lib.Dec.{leb, eqb}
 use lib.ListN.{List·getD-eq-default}
-use borrow.Author.Tests.{leb-true, le-leb, eqb-true, eqb-false}
-use Rattle.calendar.proofs.Laws.{and-left, and-right}
-use Rattle.factors.specs.declared.effective.Factor.{Factor}
+use borrow.Author.Tests.{le-leb, eqb-true, eqb-false}
+use Rattle.calendar.proofs.TestLaws.{within-bounds}
 use Rattle.factors.specs.declared.effective.FactorTerms.{FactorTerms}
 use Rattle.factors.specs.Commutation.{table1, commutationFactor, straightLine, yearValues}
 use Rattle.factors.specs.EarlyPayment.{tableA, earlyPaymentFactor, reducedPension}
-use Rattle.factors.specs.Effective.{lumpTop, lumpBottom, effectiveFactor}
-use Rattle.factors.proofs.Table.{below, below-at}
-
--- two bounds that were tested together
-pub within : (low high x : ℕ) → (leb low x && leb x high) ≡ true → (low ≤ x) × (x ≤ high)
-within low high x t = (leb-true low x (and-left (leb low x) _ t), leb-true x high (and-right (leb low x) _ t))
+use Rattle.factors.specs.Effective.{lumpTop, lumpBottom, effectiveFactor, FactorRange}
+use Rattle.factors.proofs.Table.{below-at}
 
 -- Table 1 at the ages it holds
 pub table1-range : (age : ℕ) → 636 ≤ age → age ≤ 875 → (1306 ≤ table1 age) × (table1 age ≤ 2540)
 unfolding table1 straightLine yearValues
 table1-range age low high =
     simp (le-leb 636 age low, le-leb age 875 high)
-    (within 1306 2540 (straightLine (age - 636))
+    (within-bounds 1306 2540 (straightLine (age - 636))
     (below-at 240 (λ (k : ℕ). leb 1306 (straightLine k) && leb (straightLine k) 2540) refl (age - 636) (omega arith)))
 
 -- F1, given or looked up
@@ -54,7 +48,7 @@ commutation-range given age listed stated = go (eqb given 0) refl
 pub early-payment-range : (months : ℕ) → months ≤ 60 → (775 ≤ earlyPaymentFactor months) × (earlyPaymentFactor months ≤ 998)
 unfolding earlyPaymentFactor tableA
 early-payment-range months high =
-    within 775 998 (earlyPaymentFactor months)
+    within-bounds 775 998 (earlyPaymentFactor months)
     (below-at 61 (λ (k : ℕ). leb 775 (earlyPaymentFactor k) && leb (earlyPaymentFactor k) 998) refl months (omega arith))
 
 pub early-payment-below : (months : ℕ) → earlyPaymentFactor months < 1000
@@ -69,15 +63,6 @@ pub reduced-at-most : (stated months : ℕ) → reducedPension stated months ≤
 unfolding reducedPension
 reduced-at-most stated months =
     div-le-of-le-mul 1000 (omega (arith, mul-le-mul-left stated (le-of-lt (early-payment-below months))))
-
--- what the split needs of E as top over bottom
-pub record FactorRange (e : Factor) : Type 0 where
-  pub top-positive : 0 < e .top
-  pub bottom-positive : 0 < e .bottom
-  pub top-high : e .top ≤ 800000000
-  pub bottom-high : e .bottom ≤ 20000000
-  pub least : 5 * e .bottom ≤ e .top
-  pub most : e .top ≤ 80 * e .bottom
 
 -- kind 1
 pub direct-range : (t : FactorTerms) → 500 ≤ t .f1 → t .f1 ≤ 4000 → FactorRange (effectiveFactor 1 t)

@@ -1,5 +1,5 @@
 -- The effective factor E of a pension ("Split" of document 01), as a top over a bottom. Assumes nothing.
-use Prim.Native.Nat.{ℕ, _+_, _*_}
+use Prim.Native.Nat.{ℕ, _+_, _*_, _≤_, _<_}
 use mathlib.Core.Bool.{cond}
 use lib.Dec.{eqb}
 use Rattle.factors.specs.declared.effective.Factor.{Factor}
@@ -19,3 +19,12 @@ effectiveFactor kind t =
     cond (eqb kind 1) (record { top = t .f1; bottom = 100 })
     (cond (eqb kind 2) (record { top = 10 * lumpTop t; bottom = lumpBottom t })
     (record { top = 12; bottom = 1 }))
+
+-- the range of E for terms within document 01's lists, from 5 to 80, and of its top and bottom; for contracts
+pub record FactorRange (e : Factor) : Type 0 where
+  pub top-positive : 0 < e .top
+  pub bottom-positive : 0 < e .bottom
+  pub top-high : e .top ≤ 800000000
+  pub bottom-high : e .bottom ≤ 20000000
+  pub least : 5 * e .bottom ≤ e .top
+  pub most : e .top ≤ 80 * e .bottom

@@ -14,7 +14,7 @@ use lib.ListN.{length, getD, take, drop, length-take, length-drop}
 use lib.Seq.{getD-take, getD-drop, drop-drop}
 use borrow.Author.Tests.{lt-ltb, le-ltb, ltb-false, eqb-true, eq-eqb, not-false, not-true}
 use Rattle.split.specs.Frame.{hexValue, badCharacter, digitAt, numberAt}
-use Rattle.split.proofs.ListLaws.{any-none}
+use Rattle.calendar.proofs.TestLaws.{any-none}
 use Rattle.register.specs.Line.{fieldWidths, numberWidth, textLength, lineLength, figuresIn, numberIn}
 use Rattle.register.specs.Check.{linesOf, badAt, firstBad, wrongNumber, lineFault, sound, unsound, checkLines, badUsed, checkOf}
 use Rattle.register.proofs.AnyLaws.{neither, both}

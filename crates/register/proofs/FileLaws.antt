@@ -10,10 +10,10 @@ use lib.Dec.{eqb}
 use lib.ListN.{length, take, drop, length-append, length-drop}
 use lib.Seq.{take-append-seam, drop-append-add, drop-drop}
 use borrow.Author.Tests.{eqb-true, eqb-false, ltb-false}
-use Rattle.split.specs.Frame.{any}
-use Rattle.split.specs.Refusal.{refusalOf, lowest}
+use Rattle.calendar.specs.Tests.{any, lowest}
+use Rattle.split.specs.Refusal.{refusalOf}
 use Rattle.split.specs.Quote.{quoteOf}
-use Rattle.split.proofs.ListLaws.{any-none}
+use Rattle.calendar.proofs.TestLaws.{any-none}
 use Rattle.split.proofs.QuoteLaws.{quote-fits}
 use Rattle.register.specs.Line.{lineLength, lineOf}
 use Rattle.register.specs.Check.{linesOf, checkLines, checkOf, badUsed}

@@ -15,7 +15,7 @@ use Rattle.split.specs.Frame.{numberAt}
 use Rattle.split.specs.Refusal.{refusalOf}
 use Rattle.split.specs.Quote.{quoteOf}
 use Rattle.split.specs.declared.answers.Quote.{Quote}
-use Rattle.split.proofs.ListLaws.{any-none}
+use Rattle.calendar.proofs.TestLaws.{any-none}
 use Rattle.split.proofs.QuoteLaws.{quote-fits, quote-refusal}
 use Rattle.register.specs.declared.answers.Checked.{Checked}
 use Rattle.register.specs.declared.answers.Filed.{Filed}

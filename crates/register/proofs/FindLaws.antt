@@ -7,7 +7,7 @@ use mathlib.Core.Path.{_≡_}
 use native.Mathlib.Omega.{arith}
 use lib.ListN.{length, getD}
 use Rattle.register.specs.Find.{lastWhere}
-use Rattle.register.proofs.AnyLaws.{none-any, some-any}
+use Rattle.calendar.proofs.TestLaws.{none-any, some-any}
 
 pub last-at : (f : List ℕ → Bool) (ls : List (List ℕ)) (k : ℕ) → k < length ls → f (getD ls k []) ≡ true
     → ((j : ℕ) → k < j → j < length ls → f (getD ls j []) ≡ false) → lastWhere f ls ≡ getD ls k []

@@ -10,8 +10,9 @@ use lib.Dec.{eqb}
 use lib.ListN.{length, take, drop}
 use lib.Seq.{drop-drop}
 use borrow.Author.Tests.{eqb-true, eq-eqb, ne-eqb}
-use Rattle.split.specs.Frame.{any, numberAt}
-use Rattle.split.proofs.ListLaws.{any-snoc}
+use Rattle.split.specs.Frame.{numberAt}
+use Rattle.calendar.specs.Tests.{any}
+use Rattle.calendar.proofs.TestLaws.{any-snoc}
 use Rattle.register.specs.declared.answers.Checked.{Checked}
 use Rattle.register.specs.declared.answers.Located.{Located}
 use Rattle.register.specs.Line.{fieldWidths, textLength, lineLength}

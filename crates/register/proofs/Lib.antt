@@ -1,5 +1,4 @@
 pub mod AnyLaws
-pub mod HexLaws
 pub mod LineLaws
 pub mod CheckLaws
 pub mod FindLaws

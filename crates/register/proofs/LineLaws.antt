@@ -10,12 +10,11 @@ use lib.ListN.{length, getD, length-append, List·getD-append}
 use lib.Seq.{getD-at}
 use Rattle.split.specs.declared.answers.Share.{Share}
 use Rattle.split.specs.declared.answers.Quote.{Quote}
-use Rattle.split.specs.Frame.{hexValue, badCharacter}
+use Rattle.split.specs.Frame.{hexValue, badCharacter, hexText}
 use Rattle.split.specs.Quote.{SharesFit, QuoteFits, lumpsIn as shareLumps}
-use Rattle.split.proofs.ListLaws.{any-none}
-use Rattle.register.specs.Line.{fieldWidths, widthOf, textLength, lineLength, hexText, fieldsText, shareFigures, figuresOf, lineOf, fieldsAt, figuresIn, numberIn, memberIn, totalIn, firstOfThree, lumpsInLine}
-use Rattle.register.proofs.AnyLaws.{any-append}
-use Rattle.register.proofs.HexLaws.{hex-length, hex-good, hex-back}
+use Rattle.calendar.proofs.TestLaws.{any-none, any-append}
+use Rattle.register.specs.Line.{fieldWidths, widthOf, textLength, lineLength, fieldsText, shareFigures, figuresOf, lineOf, fieldsAt, figuresIn, numberIn, memberIn, totalIn, firstOfThree, lumpsInLine}
+use Rattle.split.proofs.HexLaws.{hex-length, hex-good, hex-back}
 
 -- fields of any widths: their text's length, that it is all digits, and that it is read back
 pub fields-length : (ws xs : List ℕ) → length xs ≡ length ws → length (fieldsText ws xs) ≡ widthOf ws

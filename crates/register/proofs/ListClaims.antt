@@ -15,7 +15,7 @@ use Rattle.register.specs.Check.{wrongNumber, sound, checkOf, checkLines
 use Rattle.register.specs.File.{answersOf, bufferOf, usedOf, firstNumber}
 use Rattle.register.specs.Find.{findLine, findRefusal, hasNumber, usedLines}
 use Rattle.register.specs.Ledger.{LineClaim, ListClaim, ledgerLines, grantedCases}
-use Rattle.register.proofs.AnyLaws.{some-any}
+use Rattle.calendar.proofs.TestLaws.{some-any}
 use Rattle.register.proofs.LineLaws.{figures-back, number-back, total-back, lumps-back}
 use Rattle.register.proofs.FindLaws.{last-at}
 use Rattle.register.proofs.FileLaws.{laid-lines, laid-check, FollowsAll, follows-all}

@@ -13,8 +13,9 @@ use borrow.Author.Tests.{lt-ltb, le-ltb}
 use Rattle.split.specs.declared.answers.Share.{Share}
 use Rattle.split.specs.declared.answers.Quote.{Quote}
 use Rattle.split.specs.Quote.{noShare}
-use Rattle.register.specs.Line.{fieldWidths, textLength, lineLength, hexCharacter, hexText, fieldsText, shareFigures, figuresOf, lineOf}
-use Rattle.register.proofs.HexLaws.{hex-length}
+use Rattle.register.specs.Line.{fieldWidths, textLength, lineLength, fieldsText, shareFigures, figuresOf, lineOf}
+use Rattle.split.specs.Frame.{hexCharacter, hexText}
+use Rattle.split.proofs.HexLaws.{hex-length}
 use Rattle.register.proofs.LineLaws.{fields-length, share-count}
 
 -- a digit's character

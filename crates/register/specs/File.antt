@@ -4,7 +4,8 @@ use mathlib.Core.Bool.{Bool, cond, not}
 use mathlib.Core.List.{List, [], _∷_, _++_}
 use lib.Dec.{ltb, eqb}
 use lib.ListN.{length, take, drop}
-use Rattle.split.specs.Refusal.{refusalOf, lowest}
+use Rattle.split.specs.Refusal.{refusalOf}
+use Rattle.calendar.specs.Tests.{lowest}
 use Rattle.split.specs.Quote.{quoteOf}
 use Rattle.register.specs.declared.answers.Filed.{Filed}
 use Rattle.register.specs.Line.{lineLength, lineOf, numberIn}

@@ -3,7 +3,7 @@ use Prim.Native.Nat.{ℕ, suc, _*_, _/_}
 use mathlib.Core.Bool.{Bool, cond}
 use mathlib.Core.List.{List, [], _∷_}
 use lib.Dec.{eqb}
-use Rattle.split.specs.Frame.{any}
+use Rattle.calendar.specs.Tests.{any}
 use Rattle.register.specs.declared.answers.Located.{Located}
 use Rattle.register.specs.Line.{lineLength, numberIn, memberIn}
 use Rattle.register.specs.Check.{linesOf, checkOf}

@@ -6,7 +6,8 @@ use mathlib.Core.List.{List, [], _∷_, _++_}
 use mathlib.Core.Path.{_≡_}
 use lib.Dec.{eqb}
 use lib.ListN.{length, getD, drop}
-use Rattle.split.specs.Refusal.{refusalOf, lowest}
+use Rattle.split.specs.Refusal.{refusalOf}
+use Rattle.calendar.specs.Tests.{lowest}
 use Rattle.split.specs.Quote.{quoteOf, BestLumps}
 use Rattle.register.specs.declared.answers.Filed.{Filed}
 use Rattle.register.specs.Line.{lineOf, figuresOf, figuresIn, totalIn, lumpsInLine}

@@ -1,9 +1,7 @@
 -- A register line ("Register" of document 01): fields of uppercase hexadecimal digits and a newline, written from the
 -- figures of a quote and read back. Assumes nothing.
-use Prim.Native.Nat.{ℕ, zero, suc, _+_, _/_, _%_}
-use mathlib.Core.Bool.{cond}
+use Prim.Native.Nat.{ℕ, _+_}
 use mathlib.Core.List.{List, [], _∷_, _++_}
-use lib.Dec.{ltb}
 use lib.ListN.{getD, drop}
 use Rattle.split.specs.declared.answers.Share.{Share}
 use Rattle.split.specs.declared.answers.Quote.{Quote}
@@ -27,15 +25,6 @@ textLength = widthOf fieldWidths
 
 unfoldable pub lineLength : ℕ
 lineLength = textLength + 1
-
--- the character of a digit
-unfoldable pub hexCharacter : ℕ → ℕ
-hexCharacter d = cond (ltb d 10) (48 + d) (55 + d)
-
--- n digits of a number, highest first
-unfoldable pub hexText : ℕ → ℕ → List ℕ
-hexText zero x = []
-hexText (suc n) x = hexText n (x / 16) ++ (hexCharacter (x % 16) ∷ [])
 
 -- each number at its field's width
 unfoldable pub fieldsText : List ℕ → List ℕ → List ℕ

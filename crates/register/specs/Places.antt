@@ -6,7 +6,8 @@ use mathlib.Core.List.{List, []}
 use mathlib.Core.Path.{_≡_}
 use lib.Dec.{eqb}
 use lib.ListN.{length, getD, take, drop}
-use Rattle.split.specs.Frame.{any, numberAt}
+use Rattle.split.specs.Frame.{numberAt}
+use Rattle.calendar.specs.Tests.{any}
 use Rattle.register.specs.Line.{lineLength}
 use Rattle.register.specs.Check.{linesOf, checkOf}
 use Rattle.register.specs.Find.{lastWhere, lastPlace}

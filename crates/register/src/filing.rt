@@ -15,7 +15,7 @@ ghost use Rattle.register.specs.Line.{lineLength};
 ghost use Rattle.register.specs.Check.{linesOf};
 ghost use Rattle.register.specs.File.{nextNumber, firstNumber, fileAnswer, bytesAfter, answersOf, bufferOf};
 ghost use Rattle.register.specs.Text.{textLines, refusalBytes, filedLines, FiledAll};
-ghost use Rattle.register.specs.Places.{Sound, Known, hasNewline, LineEnd};
+ghost use Rattle.register.specs.Places.{Known, hasNewline, LineEnd};
 
 // How many characters of a text are looked at together in the search for a newline.
 const SPAN: usize = 16;

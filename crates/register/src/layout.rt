@@ -1,11 +1,11 @@
 // A register line: fields of hexadecimal digits in their order, and a newline.
 use split::answers::Quote;
 ghost use mathlib.Core.Path.{_≡_};
-ghost use mathlib.Core.List.{List};
-ghost use Prim.Native.Nat.{ℕ, _+_, _≤_, _<_};
+ghost use Prim.Native.Nat.{_+_, _≤_, _<_};
 ghost use lib.ListN.{length};
 ghost use lib.Seq.{sets};
-ghost use Rattle.register.specs.Line.{hexCharacter, hexText, figuresOf, lineOf, lineLength};
+ghost use Rattle.register.specs.Line.{figuresOf, lineOf, lineLength};
+ghost use Rattle.split.specs.Frame.{hexCharacter, hexText};
 
 // Where the member's field begins, after the number's.
 pub const MEMBER_AT: usize = 8;

@@ -10,22 +10,19 @@ use lib.Dec.{leb, ltb, eqb}
 use lib.ListN.{length, getD}
 use borrow.Author.Tests.{ltb-false, not-false, eq-eqb, ne-eqb}
 use Rattle.calendar.specs.Calendar.{months, sixtiethBirthday}
-use Rattle.calendar.proofs.Laws.{and-left, and-right}
+use Rattle.calendar.proofs.TestLaws.{and-left, and-right, within-bounds, or-left, or-right, any-none, none-holds}
 use Rattle.factors.specs.declared.effective.FactorTerms.{FactorTerms}
 use Rattle.factors.specs.Commutation.{commutationFactor}
 use Rattle.factors.specs.EarlyPayment.{reducedPension}
-use Rattle.factors.specs.Effective.{effectiveFactor}
-use Rattle.factors.proofs.Laws.{FactorRange, DeferredTerms, direct-range, deferred-range, active-range}
-use Rattle.factors.proofs.Laws.{commutation-range, reduced-at-most, within as within-bounds}
+use Rattle.factors.specs.Effective.{effectiveFactor, FactorRange}
+use Rattle.factors.proofs.Laws.{DeferredTerms, direct-range, deferred-range, active-range, commutation-range, reduced-at-most}
 use Rattle.split.specs.declared.case.Head.{Head}
 use Rattle.split.specs.declared.case.Pension.{Pension}
 use Rattle.split.specs.Case.{noPension}
-use Rattle.split.specs.Frame.{any}
-use Rattle.split.specs.Refusal.{ageOf, undatedHead, undated, disordered, badAge, unknownKind, unlisted, wrongAge, noFactor, unstated, totalStated, conditions, lowest}
-use Rattle.split.specs.Refusal.{within, listedF1, noIncrease, listedIncrease}
+use Rattle.calendar.specs.Tests.{any, lowest, within}
+use Rattle.split.specs.Refusal.{ageOf, undatedHead, undated, disordered, badAge, unknownKind, unlisted, wrongAge, noFactor, unstated, totalStated, conditions, listedF1, noIncrease, listedIncrease}
 use Rattle.split.specs.Benefits.{workedPension, workedTerms, factorOf, limitedLump, benefitOf, benefitsOf}
 use Rattle.split.specs.Limits.{PositiveTops, totalCap, totalPension}
-use Rattle.split.proofs.ListLaws.{or-left, or-right, any-none}
 use Rattle.split.proofs.LimitLaws.{quarter-at-most, cap-quarter}
 
 -- what the conditions denied of a pension
@@ -44,18 +41,6 @@ pub record Accepted (h : Head) (ps : List Pension) : Type 0 where
   pub head-aged : badAge (ageOf h) ≡ false
   pub each : (j : ℕ) → j < length ps → AcceptedPension h (getD ps j noPension)
   pub sum : totalStated ps ≤ 50000000
-
--- where no condition holds, the first does not, nor any after it
-pub lowest-none : (k : ℕ) (b : Bool) (bs : List Bool) → lowest (suc k) (b ∷ bs) ≡ 0
-    → (b ≡ false) × (lowest (suc (suc k)) bs ≡ 0)
-lowest-none k true bs e = absurd (omega arith)
-lowest-none k false bs e = (refl, e)
-
--- so none does at any place
-none-holds : (k : ℕ) (bs : List Bool) → lowest (suc k) bs ≡ 0 → (j : ℕ) → getD bs j false ≡ false
-none-holds k [] e j = refl
-none-holds k (b ∷ bs) e zero = lowest-none k b bs e .0
-none-holds k (b ∷ bs) e (suc j) = none-holds (suc k) bs (lowest-none k b bs e .1) j
 
 -- an accepted case has all that they denied
 pub accepted : (h : Head) (ps : List Pension) → lowest 3 (conditions h ps) ≡ 0 → Accepted h ps

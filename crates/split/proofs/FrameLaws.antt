@@ -16,9 +16,9 @@ use borrow.Author.Count.{below-more}
 use borrow.Author.Tests.{eqb-true}
 use Rattle.calendar.specs.Calendar.{date}
 use Rattle.factors.proofs.Table.{below-at}
-use Rattle.split.specs.Frame.{badCharacter, digitAt, numberAt, dateAt, hexValue}
+use Rattle.split.specs.Frame.{noDigit, badCharacter, digitAt, numberAt, dateAt, hexValue}
 use Rattle.split.specs.Parts.{Digits}
-use Rattle.split.proofs.ListLaws.{any-none}
+use Rattle.calendar.proofs.TestLaws.{any-none}
 
 pub digit-below : (s : List ℕ) (at : ℕ) → digitAt s at < 16
 unfolding digitAt
@@ -54,17 +54,17 @@ pub read-all : {s : List ℕ} {at n value i : ℕ} → Read s at n value i → n
 read-all {n = n} {i = i} read h = let all : i ≡ n = omega arith in rw all at (read .number)
 
 -- a digit's value by arithmetic: antt computes it at each of the 256 characters
-pub digit-worth : (c : ℕ) → c < 256 → eqb (hexValue c) 16 ≡ false → c % 16 + 9 * (c / 64) ≡ hexValue c % 16
-unfolding hexValue
+pub digit-worth : (c : ℕ) → c < 256 → noDigit c ≡ false → c % 16 + 9 * (c / 64) ≡ hexValue c % 16
+unfolding hexValue noDigit
 digit-worth c h e =
     eqb-true _ _
     (rw e at
-    (below-at 256 (λ (k : ℕ). eqb (hexValue k) 16 || eqb (k % 16 + 9 * (k / 64)) (hexValue k % 16)) refl c h))
+    (below-at 256 (λ (k : ℕ). noDigit k || eqb (k % 16 + 9 * (k / 64)) (hexValue k % 16)) refl c h))
 
 -- in a line of digits each character is one
-pub digit-known : (s : List ℕ) (at : ℕ) → badCharacter s ≡ false → at < length s → eqb (hexValue (getD s at 0)) 16 ≡ false
+pub digit-known : (s : List ℕ) (at : ℕ) → badCharacter s ≡ false → at < length s → noDigit (getD s at 0) ≡ false
 unfolding badCharacter
-digit-known s at e h = any-none (λ (c : ℕ). eqb (hexValue c) 16) s 0 e at h
+digit-known s at e h = any-none noDigit s 0 e at h
 
 -- past the end there are only zeros
 pub number-past : (s : List ℕ) (at n : ℕ) → length s ≤ at → numberAt s at n ≡ 0

@@ -4,6 +4,7 @@ pub mod CaseLaws
 pub mod Figures
 pub mod FrameLaws
 pub mod GrantLaws
+pub mod HexLaws
 pub mod Level
 pub mod LimitLaws
 pub mod ListLaws

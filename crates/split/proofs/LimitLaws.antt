@@ -14,8 +14,7 @@ use Rattle.factors.specs.declared.money.YearlyPence.{YearlyPence}
 use Rattle.factors.specs.declared.effective.Factor.{Factor}
 use Rattle.factors.specs.declared.effective.FactorTerms.{FactorTerms}
 use Rattle.factors.specs.EarlyPayment.{reducedPension}
-use Rattle.factors.specs.Effective.{effectiveFactor}
-use Rattle.factors.proofs.Laws.{FactorRange}
+use Rattle.factors.specs.Effective.{effectiveFactor, FactorRange}
 use Rattle.split.specs.declared.case.Head.{Head}
 use Rattle.split.specs.declared.case.Pension.{Pension}
 use Rattle.split.specs.declared.limits.Benefit.{Benefit}

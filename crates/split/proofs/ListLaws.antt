@@ -1,55 +1,14 @@
 -- Laws of lists for loops that go through one or fill one: `any` by the next element or by one more at the end, what a
 -- test that holds of none says of each, a part that grows by a store, and how far a loop has come. Assumes nothing.
-use mathlib.Core.Path.{_≡_, refl, sym, _∙_, ap}
-use mathlib.Core.Bool.{Bool, true, false, _||_, or-false, or-assoc, true≢false}
+use mathlib.Core.Path.{_≡_, sym}
+use mathlib.Core.Bool.{true≢false}
 use mathlib.Core.List.{List, [], _∷_, _++_, map, map-append}
-use Prim.Native.Nat.{ℕ, zero, suc, _+_, _-_, _<_, _≤_}
+use Prim.Native.Nat.{ℕ, suc, _+_, _-_, _<_, _≤_}
 use native.Mathlib.Nat.{le-antisymm}
 use native.Mathlib.Numerals.{add-one}
 use native.Mathlib.Omega.{arith}
-use lib.ListN.{length, getD, take, drop, set, drop-of-length-le}
-use lib.Seq.{drop-cons, take-suc, take-suc-set}
-use Rattle.split.specs.Frame.{any}
-
--- the next element decides, or leaves it to the rest after it
-pub any-next : {A : Type 0} (f : A → Bool) (l : List A) (i : ℕ) (d : A) → i < length l
-    → any f (drop i l) ≡ (f (getD l i d) || any f (drop (i + 1) l))
-any-next f l i d h = rw (add-one, drop-cons l i d h)
-
--- nothing is left past the end
-pub any-past : {A : Type 0} (f : A → Bool) (l : List A) (i : ℕ) → length l ≤ i → any f (drop i l) ≡ false
-any-past f l i h = rw (drop-of-length-le l h)
-
--- one more element at the end
-pub any-snoc : {A : Type 0} (f : A → Bool) (l : List A) (x : A) → any f (l ++ (x ∷ [])) ≡ (any f l || f x)
-any-snoc f [] x = or-false (f x)
-any-snoc f (y ∷ l) x = ap (λ (b : Bool). f y || b) (any-snoc f l x) ∙ sym (or-assoc (f y) (any f l) (f x))
-
--- a flag and the rest from a place on answer for the whole: with one more element, and past the end the flag alone
-pub flag-more : {A : Type 0} (f : A → Bool) (l : List A) (i : ℕ) (d : A) (whole flag t : Bool) → i < length l → t ≡ f (getD l i d)
-    → whole ≡ (flag || any f (drop i l)) → whole ≡ ((flag || t) || any f (drop (i + 1) l))
-flag-more f l i d whole flag t h e rest = rest ∙ rw (e, or-assoc) (ap (λ (b : Bool). flag || b) (any-next f l i d h))
-
-pub flag-all : {A : Type 0} (f : A → Bool) (l : List A) (i : ℕ) (whole flag : Bool) → length l ≤ i
-    → whole ≡ (flag || any f (drop i l)) → flag ≡ whole
-flag-all f l i whole flag h rest =
-    sym (rest ∙ ap (λ (b : Bool). flag || b) (any-past f l i h) ∙ or-false flag)
-
--- both parts of an alternative that fails
-pub or-left : (a b : Bool) → (a || b) ≡ false → a ≡ false
-or-left true b e = e
-or-left false b e = refl
-
-pub or-right : (a b : Bool) → (a || b) ≡ false → b ≡ false
-or-right true b e = absurd (true≢false e)
-or-right false b e = e
-
--- a test that holds of no element fails of each
-pub any-none : {A : Type 0} (f : A → Bool) (l : List A) (d : A) → any f l ≡ false → (j : ℕ) → j < length l
-    → f (getD l j d) ≡ false
-any-none f [] d e j h = absurd (omega arith)
-any-none f (x ∷ l) d e zero h = or-left (f x) (any f l) e
-any-none f (x ∷ l) d e (suc j) h = any-none f l d (or-right (f x) (any f l) e) j (omega arith)
+use lib.ListN.{length, getD, take, set}
+use lib.Seq.{take-suc, take-suc-set}
 
 -- a store just past a part makes the part one longer
 pub take-set-more : {A : Type 0} (l : List A) (i : ℕ) (x : A) → i < length l → take (i + 1) (set l i x) ≡ take i l ++ (x ∷ [])

@@ -18,17 +18,16 @@ use Rattle.split.specs.declared.answers.Share.{Share}
 use Rattle.split.specs.declared.answers.Quote.{Quote}
 use Rattle.split.specs.Case.{headOf, pensionAt, pensionsAt, pensionsOf}
 use Rattle.split.specs.Frame.{badCharacter}
-use Rattle.split.specs.Refusal.{badLength, conditions, lowest, refusalOf}
+use Rattle.split.specs.Refusal.{badLength, conditions, refusalOf}
+use Rattle.calendar.specs.Tests.{lowest}
 use Rattle.split.specs.Benefits.{workedTerms, benefitOf, benefitsOf}
 use Rattle.split.specs.Limits.{total, WithinCaps, Best}
-use Rattle.split.specs.Quote.{remainingOf, secondOf, shareOf, noShare, sharesOf, lumpsGranted, grantedQuote, refusedQuote}
-use Rattle.split.specs.Quote.{quoteOf, lumpsIn, BestLumps, SharesFit, QuoteFits}
-use Rattle.split.proofs.ListLaws.{or-left, or-right}
+use Rattle.split.specs.Quote.{remainingOf, secondOf, shareOf, noShare, sharesOf, lumpsGranted, grantedQuote, refusedQuote, quoteOf, lumpsIn, BestLumps, SharesFit, QuoteFits}
+use Rattle.calendar.proofs.TestLaws.{or-left, or-right, lowest-none}
 use Rattle.split.proofs.FrameLaws.{number-below}
 use Rattle.split.proofs.Prices.{total-capped}
 use Rattle.split.proofs.Best.{grant-best}
-use Rattle.split.proofs.AcceptedLaws.{AcceptedPension, Accepted, lowest-none, accepted, deferred-terms, accepted-rest}
-use Rattle.split.proofs.AcceptedLaws.{accepted-tops, accepted-caps, accepted-pensions}
+use Rattle.split.proofs.AcceptedLaws.{AcceptedPension, Accepted, accepted, deferred-terms, accepted-rest, accepted-tops, accepted-caps, accepted-pensions}
 use Rattle.split.proofs.ShareLaws.{shares-counted}
 
 -- a line of a listed length that agrees with its count has at most four pensions

@@ -12,10 +12,11 @@ use borrow.Author.Tests.{ne-eqb, lt-ltb, le-ltb}
 use Rattle.split.specs.declared.case.Head.{Head}
 use Rattle.split.specs.declared.case.Pension.{Pension}
 use Rattle.split.specs.Case.{noPension}
-use Rattle.split.specs.Frame.{any}
-use Rattle.split.specs.Refusal.{ageOf, undatedHead, undated, disordered, badAge, unknownKind, unlisted, wrongAge, noFactor, unstated, totalStated, conditions, lowest}
+use Rattle.calendar.specs.Tests.{any, lowest}
+use Rattle.split.specs.Refusal.{ageOf, undatedHead, undated, disordered, badAge, unknownKind, unlisted, wrongAge, noFactor, unstated, totalStated, conditions}
 use Rattle.split.specs.Parts.{lower, headConditions, pensionConditions}
-use Rattle.split.proofs.ListLaws.{any-snoc, take-next}
+use Rattle.split.proofs.ListLaws.{take-next}
+use Rattle.calendar.proofs.TestLaws.{any-snoc}
 
 -- two lists of conditions, place by place
 abbrev pub either : List Bool → List Bool → List Bool

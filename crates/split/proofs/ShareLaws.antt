@@ -10,16 +10,17 @@ use lib.Dec.{leb, eqb}
 use lib.ListN.{length, getD, take, set, replicate, length-take}
 use lib.Seq.{getD-take, length-take-le, set-at}
 use borrow.Author.Tests.{eqb-true, not-false}
-use Rattle.calendar.proofs.Laws.{and-right}
+use Rattle.calendar.proofs.TestLaws.{and-right, within-bounds}
 use Rattle.factors.specs.declared.effective.FactorTerms.{FactorTerms}
-use Rattle.factors.proofs.Laws.{FactorRange, within as within-bounds}
+use Rattle.factors.specs.Effective.{FactorRange}
 use Rattle.split.specs.declared.case.Head.{Head}
 use Rattle.split.specs.declared.case.Pension.{Pension}
 use Rattle.split.specs.declared.limits.Benefit.{Benefit}
 use Rattle.split.specs.declared.grant.Row.{Row}
 use Rattle.split.specs.declared.answers.Share.{Share}
 use Rattle.split.specs.Case.{noPension}
-use Rattle.split.specs.Refusal.{ageOf, within, listedF1, noIncrease, listedIncrease, unlisted, conditions, lowest}
+use Rattle.split.specs.Refusal.{ageOf, listedF1, noIncrease, listedIncrease, unlisted, conditions}
+use Rattle.calendar.specs.Tests.{within, lowest}
 use Rattle.split.specs.Benefits.{workedPension, factorOf, limitedLump, quarterLump, benefitOf, benefitsOf}
 use Rattle.split.specs.Limits.{noBenefit, total, totalPension, totalCap, WithinCaps}
 use Rattle.split.specs.Grant.{noRow, lumpsOf, grant}
@@ -28,9 +29,8 @@ use Rattle.split.specs.Parts.{ShareRange, SharesRange}
 use Rattle.split.proofs.ListLaws.{take-next}
 use Rattle.split.proofs.Prices.{ring, total-capped}
 use Rattle.split.proofs.Best.{grant-best}
-use Rattle.split.proofs.AcceptedLaws.{AcceptedPension, Accepted, accepted, factor-range, worked-at-most}
+use Rattle.split.proofs.AcceptedLaws.{AcceptedPension, Accepted, accepted, factor-range, worked-at-most, stated-at-most, accepted-tops, accepted-caps, accepted-pensions}
 use Rattle.split.proofs.LimitLaws.{cap-quarter}
-use Rattle.split.proofs.AcceptedLaws.{stated-at-most, accepted-tops, accepted-caps, accepted-pensions}
 
 -- the lumps of rows: as many, at their places, and one more at the end
 lumps-counted : (rs : List Row) → length (lumpsOf rs) ≡ length rs

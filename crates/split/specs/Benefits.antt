@@ -13,7 +13,8 @@ use Rattle.factors.specs.Effective.{effectiveFactor}
 use Rattle.split.specs.declared.case.Head.{Head}
 use Rattle.split.specs.declared.case.Pension.{Pension}
 use Rattle.split.specs.declared.limits.Benefit.{Benefit}
-use Rattle.split.specs.Refusal.{ageOf, within}
+use Rattle.split.specs.Refusal.{ageOf}
+use Rattle.calendar.specs.Tests.{within}
 
 -- P: "Kind 3: below age 720 months the pension becomes stated pension × Table A ÷ 1,000, down, at the months from
 -- commencement to the 60th birthday. From 720 months on it is kept whole. All later steps use this pension."

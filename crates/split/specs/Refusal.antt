@@ -1,6 +1,6 @@
 -- Refusals 1 to 10 ("Refusals from the input" of document 01): ten conditions in its order, of which the lowest that
 -- holds is the refusal. Conditions on a pension hold of a case where they hold of some pension. Assumes nothing.
-use Prim.Native.Nat.{ℕ, suc, _+_, _*_}
+use Prim.Native.Nat.{ℕ, _+_, _*_}
 use mathlib.Core.Bool.{Bool, cond, not, _&&_, _||_}
 use mathlib.Core.List.{List, [], _∷_}
 use lib.Dec.{leb, ltb, eqb}
@@ -9,12 +9,9 @@ use Rattle.calendar.specs.Calendar.{inCalendar, earlier, months}
 use Rattle.factors.specs.declared.effective.FactorTerms.{FactorTerms}
 use Rattle.split.specs.declared.case.Head.{Head}
 use Rattle.split.specs.declared.case.Pension.{Pension}
-use Rattle.split.specs.Frame.{any, badCharacter}
+use Rattle.split.specs.Frame.{badCharacter}
+use Rattle.calendar.specs.Tests.{any, within, lowest}
 use Rattle.split.specs.Case.{headOf, pensionsOf}
-
--- from low to high, both included
-abbrev pub within : ℕ → ℕ → ℕ → Bool
-within low high x = leb low x && leb x high
 
 -- "Age is months from birth to commencement"
 unfoldable pub ageOf : Head → ℕ
@@ -94,11 +91,6 @@ conditions h ps =
     any (wrongAge (ageOf h)) ps ∷
     any (noFactor (ageOf h)) ps ∷
     (any unstated ps || ltb 50000000 (totalStated ps)) ∷ []
-
--- "The lowest that applies is given", counted from k; "Zero stands for no refusal"
-abbrev pub lowest : ℕ → List Bool → ℕ
-lowest k [] = 0
-lowest k (b ∷ bs) = cond b k (lowest (suc k) bs)
 
 -- the refusal of a line
 unfoldable pub refusalOf : List ℕ → ℕ

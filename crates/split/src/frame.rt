@@ -4,9 +4,8 @@ ghost use mathlib.Core.Path.{_≡_};
 ghost use mathlib.Core.Bool.{false};
 ghost use mathlib.Core.List.{List};
 ghost use Prim.Native.Nat.{ℕ, _+_, _*_, _%_, _^_, _≤_, _<_};
-ghost use lib.Dec.{eqb};
 ghost use lib.ListN.{getD};
-ghost use Rattle.split.specs.Frame.{hexValue, digitAt, numberAt, dateAt, badCharacter};
+ghost use Rattle.split.specs.Frame.{hexValue, noDigit, digitAt, numberAt, dateAt, badCharacter};
 ghost use Rattle.split.specs.Parts.{Values, Digits};
 
 // The characters of the longest case line.
@@ -40,7 +39,7 @@ pub fn has_bad_character(line: &[u8]) -> bool
 
 // The value of a character that is known to be a digit.
 fn digit_value(character: u8) -> u8
-    requires { ⌜ eqb (hexValue character) 16 ≡ false ⌝ }
+    requires { ⌜ noDigit character ≡ false ⌝ }
     ensures { λ r. ⌜ r ≡ hexValue character % 16 ⌝ }
 {
     character % 16 + 9 * (character / 64)

@@ -7,7 +7,7 @@ ghost use mathlib.Core.Path.{_≡_};
 ghost use mathlib.Core.List.{map};
 ghost use Prim.Native.Nat.{ℕ, _-_, _*_, _≤_, _<_};
 ghost use lib.ListN.{length, getD, take, set};
-ghost use Rattle.factors.proofs.Laws.{FactorRange};
+ghost use Rattle.factors.specs.Effective.{FactorRange};
 ghost use Rattle.split.specs.Limits.{noBenefit, totalPension};
 ghost use Rattle.split.specs.Grant.{noRow, rowOf, cheapest, most, served, turns, lumpsOf, grant};
 

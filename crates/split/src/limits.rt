@@ -8,7 +8,7 @@ use factors::money::YearlyPence;
 ghost use mathlib.Core.Path.{_≡_};
 ghost use Prim.Native.Nat.{ℕ, _*_, _≤_, _<_};
 ghost use lib.ListN.{length, getD, take};
-ghost use Rattle.factors.proofs.Laws.{FactorRange};
+ghost use Rattle.factors.specs.Effective.{FactorRange};
 ghost use Rattle.split.specs.Case.{noPension};
 ghost use Rattle.split.specs.Refusal.{ageOf};
 ghost use Rattle.split.specs.Benefits.{workedPension, workedTerms, factorOf, limitedLump, quarterLump, capOf, benefitOf, benefitsOf};

@@ -6,7 +6,8 @@ ghost use mathlib.Core.Path.{_≡_};
 ghost use mathlib.Core.List.{[], _∷_};
 ghost use Prim.Native.Nat.{_≤_, _<_};
 ghost use lib.ListN.{take};
-ghost use Rattle.split.specs.Refusal.{ageOf, badLength, undatedHead, undated, disordered, badAge, unknownKind, listedF1, noIncrease, listedIncrease, unlisted, wrongAge, noFactor, unstated, conditions, lowest, within};
+ghost use Rattle.split.specs.Refusal.{ageOf, badLength, undatedHead, undated, disordered, badAge, unknownKind, listedF1, noIncrease, listedIncrease, unlisted, wrongAge, noFactor, unstated, conditions};
+ghost use Rattle.calendar.specs.Tests.{lowest, within};
 ghost use Rattle.split.specs.Parts.{lower, headConditions, pensionConditions};
 
 fn is_within(low: u32, high: u32, x: u32) -> bool

@@ -5,8 +5,8 @@ use mathlib.Core.Path.{_≡_, refl}
 use lib.Dec.{eqb}
 use lib.ListN.{length, drop}
 use borrow.Author.Needs.{needs}
-use Rattle.split.specs.Frame.{any}
-use Rattle.split.proofs.ListLaws.{flag-more, flag-all}
+use Rattle.calendar.specs.Tests.{any}
+use Rattle.calendar.proofs.TestLaws.{flag-more, flag-all}
 use Rattle.register.specs.Places.{hasNewline}
 use Rattle.register.proofs.filing.has_newline.Statement.{statement}
 use Rattle.register.proofs.filing.has_newline.Tie as tie

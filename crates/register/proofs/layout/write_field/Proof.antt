@@ -5,7 +5,7 @@ use native.Mathlib.Omega.{arith}
 use lib.ListN.{length, length-set}
 use lib.Seq.{sets}
 use borrow.Author.Needs.{needs}
-use Rattle.register.specs.Line.{hexText}
+use Rattle.split.specs.Frame.{hexText}
 use Rattle.register.proofs.WritingLaws.{field-next, field-end}
 use Rattle.register.proofs.layout.write_field.Statement.{statement}
 use Rattle.register.proofs.layout.write_field.Tie as tie

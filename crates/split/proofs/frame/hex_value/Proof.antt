@@ -1,6 +1,6 @@
 -- `hex_value` is the definition `hexValue`: the tests of its branches are the definition's.
 use native.Mathlib.Omega.{arith}
-use Rattle.factors.proofs.Laws.{within}
+use Rattle.calendar.proofs.TestLaws.{within-bounds}
 use Rattle.split.specs.Frame.{hexValue}
 use Rattle.split.proofs.frame.hex_value.Statement.{statement}
 use Rattle.split.proofs.frame.hex_value.Tie as tie
@@ -20,5 +20,5 @@ returns-3 c = simp (hexValue, c .before .if1 .left, c .if2 .left)
 pub hex-value-spec : {M : Type 1} → statement M
 hex-value-spec =
     tie.close
-    (tie.spec (λ c. omega (arith, within 48 57 (c .before .args .character) (c .if1 .taken))) returns
-    (λ c. omega (arith, within 65 70 (c .before .before .args .character) (c .if2 .taken))) returns-2 returns-3)
+    (tie.spec (λ c. omega (arith, within-bounds 48 57 (c .before .args .character) (c .if1 .taken))) returns
+    (λ c. omega (arith, within-bounds 65 70 (c .before .before .args .character) (c .if2 .taken))) returns-2 returns-3)

@@ -5,7 +5,7 @@ use native.Mathlib.Nat.{le-of-lt, lt-of-lt-of-le, mul-le-mul-right}
 use native.Mathlib.Numerals.{add-one-le}
 use lib.ListN.{length, getD, take, length-set}
 use mir.Facts.{fits-below}
-use Rattle.factors.proofs.Laws.{FactorRange}
+use Rattle.factors.specs.Effective.{FactorRange}
 use Rattle.split.specs.Case.{noPension}
 use Rattle.split.specs.Refusal.{ageOf}
 use Rattle.split.specs.Benefits.{factorOf, benefitOf, benefitsOf}

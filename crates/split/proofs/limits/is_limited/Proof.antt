@@ -2,7 +2,7 @@
 use mathlib.Core.Bool.{_&&_, _||_}
 use lib.Dec.{eqb}
 use borrow.Author.Needs.{needs}
-use Rattle.split.specs.Refusal.{within}
+use Rattle.calendar.specs.Tests.{within}
 use Rattle.split.specs.Benefits.{limitedLump}
 use Rattle.split.proofs.limits.is_limited.Statement.{statement}
 use Rattle.split.proofs.limits.is_limited.Tie as tie

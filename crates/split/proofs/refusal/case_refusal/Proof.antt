@@ -7,7 +7,8 @@ use native.Mathlib.Omega.{arith}
 use lib.ListN.{length, take}
 use borrow.Author.Needs.{needs}
 use mir.Facts.{fits-below}
-use Rattle.split.specs.Refusal.{ageOf, lowest, totalStated}
+use Rattle.split.specs.Refusal.{ageOf, totalStated}
+use Rattle.calendar.specs.Tests.{lowest}
 use Rattle.split.proofs.ListLaws.{up-to, fewer, at-end}
 use Rattle.split.proofs.RefusalLaws.{partly, partly-start, partly-next, total-next, total-above, total-within}
 use Rattle.split.proofs.refusal.case_refusal.Statement.{statement}

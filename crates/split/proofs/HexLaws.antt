@@ -1,22 +1,20 @@
--- A number written in hexadecimal: its text has the stated width, each character is a digit, and read back from any place
--- it is the number again, by induction on the width. Assumes nothing.
-use Prim.Native.Nat.{ℕ, zero, suc, _+_, _/_, _%_, _^_, _<_}
+-- Numbers written in hexadecimal and read again: a text has the stated width, each character is a digit, read back from any
+-- place it is the number, by induction on the width; and a number in a part of a text is read in the whole. Assumes nothing.
+use Prim.Native.Nat.{ℕ, zero, suc, _+_, _/_, _%_, _^_, _≤_, _<_}
 use mathlib.Core.Bool.{false}
-use mathlib.Core.List.{List, _∷_, _++_, append-assoc}
+use mathlib.Core.List.{List, [], _∷_, _++_, append-assoc}
 use mathlib.Core.Path.{_≡_, refl, _∙_}
 use native.Mathlib.Decide.{decLt}
-use native.Mathlib.Nat.{pow-suc}
+use native.Mathlib.Nat.{add-assoc, pow-suc}
 use native.Mathlib.Omega.{arith}
-use lib.Dec.{eqb}
-use lib.ListN.{length, length-append}
-use lib.Seq.{getD-append-add, getD-at}
+use lib.ListN.{length, take, drop, length-append}
+use lib.Seq.{getD-append-add, getD-at, getD-take, getD-drop}
 use borrow.Author.Tests.{lt-ltb, le-ltb, le-leb, lt-leb, ne-eqb}
-use Rattle.split.specs.Frame.{hexValue, badCharacter, digitAt, numberAt}
-use Rattle.split.proofs.ListLaws.{any-snoc}
-use Rattle.register.specs.Line.{hexCharacter, hexText}
+use Rattle.calendar.proofs.TestLaws.{any-append, any-snoc}
+use Rattle.split.specs.Frame.{hexValue, noDigit, badCharacter, digitAt, numberAt, hexCharacter, hexText}
 
 -- a digit's character has the digit's value
-pub hex-digit : (d : ℕ) → d < 16 → hexValue (hexCharacter d) ≡ d
+hex-digit : (d : ℕ) → d < 16 → hexValue (hexCharacter d) ≡ d
 unfolding hexValue hexCharacter
 hex-digit d h =
     elim (decLt d 10) [
@@ -38,11 +36,20 @@ hex-length (suc n) x = simp (length-append, hex-length n (x / 16)) (omega arith)
 
 -- no character is bad
 pub hex-good : (n x : ℕ) → badCharacter (hexText n x) ≡ false
-unfolding hexText badCharacter
+unfolding hexText badCharacter noDigit
 hex-good zero x = refl
 hex-good (suc n) x =
-    any-snoc (λ (c : ℕ). eqb (hexValue c) 16) (hexText n (x / 16)) (hexCharacter (x % 16))
+    any-snoc noDigit (hexText n (x / 16)) (hexCharacter (x % 16))
     ∙ simp (hex-good n (x / 16), hex-digit (x % 16) (omega arith), ne-eqb (x % 16) 16 (omega arith))
+
+-- nor of two texts one after the other, if none is of either
+pub good-append : (a b : List ℕ) → badCharacter a ≡ false → badCharacter b ≡ false → badCharacter (a ++ b) ≡ false
+unfolding badCharacter
+good-append a b x y = any-append noDigit a b ∙ simp (x, y)
+
+pub good-none : badCharacter [] ≡ false
+unfolding badCharacter
+good-none = refl
 
 -- what is written behind any text is read back from there
 pub hex-back : (pre rest : List ℕ) (n x : ℕ) → x < 16 ^ n → numberAt (pre ++ (hexText n x ++ rest)) (length pre) n ≡ x
@@ -56,3 +63,15 @@ hex-back pre rest (suc n) x h =
       getD-at (hexText n (x / 16)) (hexCharacter (x % 16)) rest 0 n (hex-length n (x / 16)),
       hex-digit (x % 16) (omega arith),
     ) (omega arith)
+
+-- a number in a part of a text is read in the whole
+pub number-part : (s : List ℕ) (size at o n : ℕ) → o + n ≤ size → numberAt (take size (drop at s)) o n ≡ numberAt s (at + o) n
+unfolding numberAt digitAt
+number-part s size at o zero h = refl
+number-part s size at o (suc n) h =
+    simp (
+      number-part s size at o n (omega arith),
+      getD-take size (drop at s) (o + n) 0 (omega arith),
+      getD-drop,
+      add-assoc,
+    )

@@ -1,0 +1,96 @@
+-- Laws of tests: both parts of "and" and of "or", a test of some element of a list by its places, by the next element, by
+-- one more at the end or over two lists, a range by its bounds, and what no condition says. Each by cases or by induction on
+-- the list. Assumes nothing.
+use Prim.Native.Nat.{ℕ, zero, suc, _+_, _≤_, _<_}
+use mathlib.Core.Path.{_≡_, refl, sym, _∙_, ap}
+use mathlib.Core.Bool.{Bool, true, false, _&&_, _||_, or-false, or-assoc, true≢false, false≢true}
+use mathlib.Core.List.{List, [], _∷_, _++_}
+use native.Mathlib.Numerals.{add-one}
+use native.Mathlib.Omega.{arith}
+use lib.Dec.{leb}
+use lib.ListN.{length, getD, drop, drop-of-length-le}
+use lib.Seq.{drop-cons}
+use borrow.Author.Tests.{leb-true}
+use Rattle.calendar.specs.Tests.{any, within, lowest}
+
+-- both parts of a test that holds
+pub and-left : (a b : Bool) → (a && b) ≡ true → a ≡ true
+and-left true b h = refl
+and-left false b h = h
+
+pub and-right : (a b : Bool) → (a && b) ≡ true → b ≡ true
+and-right true b h = h
+and-right false b h = absurd (false≢true h)
+
+-- both parts of an alternative that fails
+pub or-left : (a b : Bool) → (a || b) ≡ false → a ≡ false
+or-left true b e = e
+or-left false b e = refl
+
+pub or-right : (a b : Bool) → (a || b) ≡ false → b ≡ false
+or-right true b e = absurd (true≢false e)
+or-right false b e = e
+
+-- a test that cannot hold
+pub not-true-false : (b : Bool) → (b ≡ true → ⊥) → b ≡ false
+not-true-false true h = absurd (h refl)
+not-true-false false h = refl
+
+-- two bounds that were tested together
+pub within-bounds : (low high x : ℕ) → within low high x ≡ true → (low ≤ x) × (x ≤ high)
+within-bounds low high x t = (leb-true low x (and-left (leb low x) _ t), leb-true x high (and-right (leb low x) _ t))
+
+-- the next element decides, or leaves it to the rest after it
+any-next : {A : Type 0} (f : A → Bool) (l : List A) (i : ℕ) (d : A) → i < length l
+    → any f (drop i l) ≡ (f (getD l i d) || any f (drop (i + 1) l))
+any-next f l i d h = rw (add-one, drop-cons l i d h)
+
+-- a flag and the rest from a place on answer for the whole: with one more element, and past the end the flag alone
+pub flag-more : {A : Type 0} (f : A → Bool) (l : List A) (i : ℕ) (d : A) (whole flag t : Bool) → i < length l → t ≡ f (getD l i d)
+    → whole ≡ (flag || any f (drop i l)) → whole ≡ ((flag || t) || any f (drop (i + 1) l))
+flag-more f l i d whole flag t h e rest = rest ∙ rw (e, or-assoc) (ap (λ (b : Bool). flag || b) (any-next f l i d h))
+
+pub flag-all : {A : Type 0} (f : A → Bool) (l : List A) (i : ℕ) (whole flag : Bool) → length l ≤ i
+    → whole ≡ (flag || any f (drop i l)) → flag ≡ whole
+flag-all f l i whole flag h rest = sym (rest ∙ rw (drop-of-length-le l h) (or-false flag))
+
+-- of two lists one after the other, and with one more element at the end
+pub any-append : {A : Type 0} (f : A → Bool) (l m : List A) → any f (l ++ m) ≡ (any f l || any f m)
+any-append f [] m = refl
+any-append f (x ∷ l) m = ap (λ (b : Bool). f x || b) (any-append f l m) ∙ sym (or-assoc (f x) (any f l) (any f m))
+
+pub any-snoc : {A : Type 0} (f : A → Bool) (l : List A) (x : A) → any f (l ++ (x ∷ [])) ≡ (any f l || f x)
+any-snoc f l x = any-append f l (x ∷ []) ∙ ap (λ (b : Bool). any f l || b) (or-false (f x))
+
+-- a test that holds of no element fails of each
+pub any-none : {A : Type 0} (f : A → Bool) (l : List A) (d : A) → any f l ≡ false → (j : ℕ) → j < length l
+    → f (getD l j d) ≡ false
+any-none f [] d e j h = absurd (omega arith)
+any-none f (x ∷ l) d e zero h = or-left (f x) (any f l) e
+any-none f (x ∷ l) d e (suc j) h = any-none f l d (or-right (f x) (any f l) e) j (omega arith)
+
+-- where it fails at each place, it holds of none
+pub none-any : {A : Type 0} (f : A → Bool) (l : List A) (d : A) → ((i : ℕ) → i < length l → f (getD l i d) ≡ false)
+    → any f l ≡ false
+none-any f [] d fails = refl
+none-any f (x ∷ l) d fails = simp (fails 0 (omega arith), none-any f l d (λ i h. fails (suc i) (omega arith)))
+
+-- where it holds at a place, it holds of some
+pub some-any : {A : Type 0} (f : A → Bool) (l : List A) (i : ℕ) (d : A) → i < length l → f (getD l i d) ≡ true
+    → any f l ≡ true
+some-any f l i d h t = go (any f l) refl
+  where
+    go : (b : Bool) → any f l ≡ b → any f l ≡ true
+    go true e = e
+    go false e = absurd (false≢true (sym (any-none f l d e i h) ∙ t))
+
+-- where no condition holds, the first does not, nor any after it, nor one at any place
+pub lowest-none : (k : ℕ) (b : Bool) (bs : List Bool) → lowest (suc k) (b ∷ bs) ≡ 0
+    → (b ≡ false) × (lowest (suc (suc k)) bs ≡ 0)
+lowest-none k true bs e = absurd (omega arith)
+lowest-none k false bs e = (refl, e)
+
+pub none-holds : (k : ℕ) (bs : List Bool) → lowest (suc k) bs ≡ 0 → (j : ℕ) → getD bs j false ≡ false
+none-holds k [] e j = refl
+none-holds k (b ∷ bs) e zero = lowest-none k b bs e .0
+none-holds k (b ∷ bs) e (suc j) = none-holds (suc k) bs (lowest-none k b bs e .1) j
