@@ -9,8 +9,9 @@ use lib.ListN.{length, getD, take, drop, set, length-set}
 use lib.Seq.{take-all}
 use Rattle.split.proofs.ListLaws.{map-stored}
 use Rattle.register.specs.declared.answers.Located.{Located}
+use Rattle.register.specs.Layout.{Register, lineLayout}
 use Rattle.register.specs.Find.{findLine, locate}
-use Rattle.register.proofs.FindingLaws.{located-within}
+use Rattle.register.proofs.FindLaws.{located-within}
 use Rattle.pension.specs.declared.answers.PensionFound.{PensionFound}
 use Rattle.pension.specs.Interface.{foundForC}
 
@@ -32,8 +33,7 @@ module _ {A : Type 0} {f : A → ℕ} {xs : List A} {figures : List ℕ} {i : �
       sym (take-all i figures (omega (arith, filled .size))) ∙ filled .part ∙ ap (map f) (take-all i xs (omega arith))
 
 -- where a line is found is where its bytes are
-pub found-bytes : (f : List ℕ → Bool) (s : List ℕ) (used : ℕ) (at : Located) (r : PensionFound)
-    → at ≡ locate f s used → r ≡ foundForC at
-    → (r ≡ foundForC (locate f s used)) × (take (r .length) (drop (r .offset) s) ≡ findLine f s used)
+pub found-bytes : (f : List ℕ → Bool) (r : Register) (at : Located) (found : PensionFound) → at ≡ locate f r → found ≡ foundForC at
+    → (found ≡ foundForC (locate f r)) × (take (found .length) (drop (found .offset) (r .bytes)) ≡ findLine f r)
 unfolding foundForC
-found-bytes f s used at r located made = (made ∙ ap foundForC located, rw made (located-within f s used at located .line))
+found-bytes f r at found located made = (made ∙ ap foundForC located, rw made (located-within lineLayout f r at located .line))

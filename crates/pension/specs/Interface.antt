@@ -1,10 +1,12 @@
 -- The answers of the engine as the C interface gives them: the same numbers, field by field. Assumes nothing.
-use mathlib.Core.List.{map}
+use Prim.Native.Nat.{ℕ}
+use mathlib.Core.List.{List, map}
 use Rattle.split.specs.declared.answers.Quote.{Quote}
 use Rattle.register.specs.declared.answers.Checked.{Checked}
 use Rattle.register.specs.declared.answers.Filed.{Filed}
-use Rattle.register.specs.declared.answers.FiledLines.{FiledLines}
 use Rattle.register.specs.declared.answers.Located.{Located}
+use Rattle.register.specs.Layout.{Register}
+use Rattle.register.specs.Text.{FiledText}
 use Rattle.pension.specs.declared.answers.PensionQuote.{PensionQuote}
 use Rattle.pension.specs.declared.answers.PensionChecked.{PensionChecked}
 use Rattle.pension.specs.declared.answers.PensionFiled.{PensionFiled}
@@ -30,9 +32,10 @@ checkedForC k = record { refusal = k .refusal; offset = k .offset }
 unfoldable pub filedForC : Filed → PensionFiled
 filedForC f = record { refusal = f .refusal; used = f .used }
 
--- filings of the lines of a text
-unfoldable pub filedLinesForC : FiledLines → PensionFiledLines
-filedLinesForC f = record { used = f .used; lines = f .lines }
+-- filings of the lines of a text: what `FiledText` says, of the answer as C has it
+abbrev pub FiledTextForC : Register → List ℕ → List ℕ → List ℕ → List ℕ → PensionFiledLines → Type 0
+FiledTextForC r text old after refusals f =
+    FiledText r text old after refusals (record { used = f .used; lines = f .lines })
 
 -- where a line was found
 unfoldable pub foundForC : Located → PensionFound

@@ -15,9 +15,10 @@ ghost use lib.ListN.{length, take, drop};
 ghost use Rattle.split.specs.Quote.{quoteOf};
 ghost use Rattle.register.specs.Check.{checkOf};
 ghost use Rattle.register.specs.Find.{hasNumber, hasMember, findLine, locate};
-ghost use Rattle.register.specs.File.{fileAnswer, bytesAfter, answersOf, bufferOf};
-ghost use Rattle.register.specs.Text.{textLines, refusalBytes, filedLines, FiledAll};
-ghost use Rattle.pension.specs.Interface.{quoteForC, checkedForC, filedForC, filedLinesForC, foundForC};
+ghost use Rattle.register.specs.Layout.{lent};
+ghost use Rattle.register.specs.File.{filing, fileStep};
+ghost use Rattle.register.specs.Text.{FiledAll};
+ghost use Rattle.pension.specs.Interface.{quoteForC, checkedForC, filedForC, FiledTextForC, foundForC};
 
 // The figures of a quote's four shares side by side, in the width that C has them.
 fn quote_for_c(quote: Quote) -> PensionQuote
@@ -58,7 +59,7 @@ pub extern "C" fn pension_quote(line: &[u8]) -> PensionQuote
 // The check of a register.
 #[no_mangle]
 pub extern "C" fn pension_check(register: &[u8], used: usize) -> PensionChecked
-    ensures { λ r. ⌜ r ≡ checkedForC (checkOf (now (register .entry)) used) ⌝ }
+    ensures { λ r. ⌜ r ≡ checkedForC (checkOf (lent (now (register .entry)) used)) ⌝ }
 {
     let checked = register::check(register, used);
     PensionChecked {
@@ -79,7 +80,7 @@ fn filed_for_c(filed: Filed) -> PensionFiled
 // Files a case line.
 #[no_mangle]
 pub extern "C" fn pension_file(register: &mut [u8], used: usize, line: &[u8]) -> PensionFiled
-    ensures { λ r. ⌜ (r ≡ filedForC (fileAnswer (now (register .entry)) used (now (line .entry)))) × (now (register .exit) ≡ bytesAfter (now (register .entry)) used (now (line .entry))) ⌝ }
+    ensures { λ r. ⌜ (r ≡ filedForC (fileStep (lent (now (register .entry)) used) (filing (now (line .entry))) .answer)) × (now (register .exit) ≡ fileStep (lent (now (register .entry)) used) (filing (now (line .entry))) .state .bytes) ⌝ }
 {
     let filed = register::file(register, used, line);
     filed_for_c(filed)
@@ -93,7 +94,7 @@ pub extern "C" fn pension_file_lines(
     lines: &[u8],
     refusals: &mut [u8],
 ) -> PensionFiledLines
-    ensures { λ r. ⌜ (r ≡ filedLinesForC (filedLines (now (register .entry)) used (textLines (now (lines .entry))))) × (now (register .exit) ≡ bufferOf (now (register .entry)) used (textLines (now (lines .entry)))) × (now (refusals .exit) ≡ refusalBytes (answersOf (now (register .entry)) used (textLines (now (lines .entry)))) (now (refusals .entry))) ⌝ }
+    ensures { λ r. ⌜ FiledTextForC (lent (now (register .entry)) used) (now (lines .entry)) (now (refusals .entry)) (now (register .exit)) (now (refusals .exit)) r ⌝ }
 {
     let filed = register::file_lines(register, used, lines, refusals);
     PensionFiledLines {
@@ -123,7 +124,7 @@ fn found_for_c(located: Located) -> PensionFound
 // Where the line with a number is: the same bytes that find_number hands back.
 #[no_mangle]
 pub extern "C" fn pension_find_number(register: &[u8], used: usize, number: u32) -> PensionFound
-    ensures { λ r. ⌜ (r ≡ foundForC (locate (hasNumber number) (now (register .entry)) used)) × (take (r .length) (drop (r .offset) (now (register .entry))) ≡ findLine (hasNumber number) (now (register .entry)) used) ⌝ }
+    ensures { λ r. ⌜ (r ≡ foundForC (locate (hasNumber number) (lent (now (register .entry)) used))) × (take (r .length) (drop (r .offset) (now (register .entry))) ≡ findLine (hasNumber number) (lent (now (register .entry)) used)) ⌝ }
 {
     let located = register::locate_number(register, used, number);
     found_for_c(located)
@@ -132,7 +133,7 @@ pub extern "C" fn pension_find_number(register: &[u8], used: usize, number: u32)
 // Where a member's newest line is: the same bytes that find_member hands back.
 #[no_mangle]
 pub extern "C" fn pension_find_member(register: &[u8], used: usize, member: u32) -> PensionFound
-    ensures { λ r. ⌜ (r ≡ foundForC (locate (hasMember member) (now (register .entry)) used)) × (take (r .length) (drop (r .offset) (now (register .entry))) ≡ findLine (hasMember member) (now (register .entry)) used) ⌝ }
+    ensures { λ r. ⌜ (r ≡ foundForC (locate (hasMember member) (lent (now (register .entry)) used))) × (take (r .length) (drop (r .offset) (now (register .entry))) ≡ findLine (hasMember member) (lent (now (register .entry)) used)) ⌝ }
 {
     let located = register::locate_member(register, used, member);
     found_for_c(located)

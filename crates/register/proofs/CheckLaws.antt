@@ -1,108 +1,214 @@
--- The check of a register: a written line has no fault, and bytes that are lines one after the other are cut into those
--- lines again, so that a used length is theirs. Assumes nothing.
-use Prim.Native.Nat.{ℕ, zero, suc, _+_, _-_, _*_, _/_, _≤_, _<_}
-use mathlib.Core.Bool.{false}
-use mathlib.Core.List.{List, [], _∷_, _++_, append-assoc}
-use mathlib.Core.Path.{_≡_, refl, _∙_, ap}
+-- The check of a register, for any layout: the fault of a line by the first bad character, the number and the late test; one
+-- more line behind lines that check sound; and the numbers of lines that check sound, which rise from the first by one.
+-- By induction on the characters and on the lines. Assumes nothing.
+use Prim.Native.Nat.{ℕ, zero, suc, _+_, _-_, _*_, _%_, _≤_, _<_}
+use mathlib.Core.Bool.{Bool, true, false, cond, not}
+use mathlib.Core.List.{List, [], _∷_, _++_}
+use mathlib.Core.Path.{_≡_, refl, sym, _∙_, ap}
 use native.Mathlib.Decide.{decLt}
-use native.Mathlib.Nat.{mul-div-cancel, mul-mod-left, suc-mul}
+use native.Mathlib.Nat.{mul-mod-left}
 use native.Mathlib.Omega.{arith}
-use lib.ListN.{length, drop, length-append}
-use lib.Seq.{take-at, drop-at}
-use borrow.Author.Tests.{lt-ltb, le-ltb}
-use Rattle.split.specs.declared.answers.Quote.{Quote}
-use Rattle.split.specs.Quote.{QuoteFits}
-use Rattle.register.specs.Line.{fieldWidths, numberWidth, textLength, lineLength, lineOf, numberIn}
-use Rattle.register.specs.Check.{linesOf, badAt, firstBad, wrongNumber, lineFault, badUsed}
-use Rattle.register.specs.Ledger.{bytesOf}
+use lib.Dec.{ltb, eqb}
+use lib.ListN.{length, getD}
+use borrow.Author.Tests.{lt-ltb, le-ltb, ltb-true, ltb-false, eqb-true, eqb-false, eq-eqb, ne-eqb, not-false}
+use Rattle.calendar.proofs.TestLaws.{or-left, or-right}
+use Rattle.split.proofs.FrameLaws.{number-below}
+use Rattle.register.specs.declared.answers.Checked.{Checked}
+use Rattle.register.specs.Line.{figureWidth, textLength, lineFor, numberIn}
+use Rattle.register.specs.Layout.{Layout, Register, lengthOf, usedLinesBy, usedBy, lineLayout, lineLength}
+use Rattle.register.specs.Check.{numberAfter, wrongNumber, unsound, badAt, firstBad, lineFault, checkLinesBy, badUsedBy, checkBy}
 use Rattle.register.proofs.LineLaws.{line-digit, line-end, number-back}
+use Rattle.register.proofs.LayoutLaws.{Whole, whole-length}
 
--- the newline is the one character past the fields
-pub line-text : lineLength ≡ textLength + 1
-unfolding lineLength
-line-text = refl
+-- a number that is read has 32 bits
+pub number-low : (l : List ℕ) → numberIn l < 4294967296
+unfolding numberIn
+number-low l = number-below l 0 figureWidth
 
-pub line-positive : 0 < lineLength
-line-positive = omega (arith, line-text)
+-- the number after one more line, and after any lines that follow a first
+pub after-more : (expected : ℕ) (ls : List (List ℕ)) (l : List ℕ) → numberAfter expected (ls ++ (l ∷ [])) ≡ numberIn l + 1
+unfolding numberAfter
+after-more expected [] l = refl
+after-more expected (m ∷ ls) l = after-more (numberIn m + 1) ls l
 
--- the number's field lies in the line
-pub number-inside : numberWidth ≤ lineLength
-unfolding numberWidth lineLength textLength fieldWidths
-number-inside = omega arith
+-- it fits 33 bits, and behind a line it is not 0
+pub after-low : (expected : ℕ) (ls : List (List ℕ)) → expected ≤ 4294967296 → numberAfter expected ls ≤ 4294967296
+unfolding numberAfter
+after-low expected [] h = h
+after-low expected (l ∷ ls) h = after-low (numberIn l + 1) ls (omega (arith, number-low l))
 
--- where no character up to an end is bad, none is found
-first-good : (l : List ℕ) (i n : ℕ) → ((j : ℕ) → j < i + n → badAt l j ≡ false) → firstBad l i n ≡ i + n
-unfolding firstBad
-first-good l i zero good = omega arith
-first-good l i (suc n) good =
-    simp (good i (omega arith)) (omega (arith, first-good l (suc i) n (λ j h. good j (omega arith))))
+-- a right number
+pub any-right : (n : ℕ) → 0 < n → wrongNumber 0 n ≡ false
+unfolding wrongNumber
+any-right n h = ne-eqb n 0 (omega arith)
 
--- a line without a bad character whose number is the expected one has no fault
-pub faultless : (l : List ℕ) (expected : ℕ) → ((i : ℕ) → i < lineLength → badAt l i ≡ false)
-    → wrongNumber expected (numberIn l) ≡ false → lineFault expected l ≡ lineLength
-unfolding lineFault
-faultless l expected good right =
-    simp (
-      first-good l 0 numberWidth (λ j h. good j (omega (arith, number-inside))),
-      le-ltb (0 + numberWidth) numberWidth (omega arith),
-      right,
-    )
-    (first-good l numberWidth (lineLength - numberWidth) (λ j h. good j (omega (arith, number-inside)))
-    ∙ omega (arith, number-inside))
+pub next-right : (n : ℕ) → 0 < n → wrongNumber n n ≡ false
+unfolding wrongNumber
+next-right n h = simp (ne-eqb n 0 (omega arith), eq-eqb n n refl)
 
-module _ (k : ℕ) (q : Quote) (fits : QuoteFits q) where
-  -- no character of a written line is bad
-  line-good : (i : ℕ) → i < lineLength → badAt (lineOf k q) i ≡ false
-  unfolding badAt
-  line-good i h =
-      elim (decLt i textLength) [
-        | yes l ↦ simp (lt-ltb i textLength l, line-digit k q fits i l)
-        | no l ↦
-            let e : i ≡ textLength = omega (arith, line-text) in
-            simp (e, le-ltb textLength textLength (omega arith), line-end k q fits)
+-- a number that is right where one is expected is that one
+right-same : (expected number : ℕ) → 0 < expected → wrongNumber expected number ≡ false → number ≡ expected
+unfolding wrongNumber
+right-same expected number h e =
+    eqb-true number expected (not-false (eqb number expected) (simp (ne-eqb expected 0 (omega arith)) at e))
+
+module _ (y : Layout) (l : List ℕ) where
+  -- no character before a place is bad
+  abbrev pub Good : ℕ → Type 0
+  Good place = (j : ℕ) → j < place → badAt y l j ≡ false
+
+  -- the first bad character among some: there is none, or it is the one behind good ones
+  first-none : (i n : ℕ) → Good (i + n) → firstBad y l i n ≡ i + n
+  unfolding firstBad
+  first-none i zero good = omega arith
+  first-none i (suc n) good =
+      simp (good i (omega arith)) (omega (arith, first-none (suc i) n (λ j h. good j (omega arith))))
+
+  first-found : (i n place : ℕ) → i ≤ place → place < i + n → Good place → badAt y l place ≡ true → firstBad y l i n ≡ place
+  unfolding firstBad
+  first-found i zero place low high good bad = absurd (omega arith)
+  first-found i (suc n) place low high good bad =
+      elim (decLt i place) [
+        | yes h ↦ simp (good i h) (first-found (suc i) n place (omega arith) (omega arith) good bad)
+        | no h ↦ let e : i ≡ place = omega arith in simp (e, bad)
       ]
 
-  -- nor has it a fault where its number is the expected one
-  pub line-faultless : k < 4294967296 → (expected : ℕ) → wrongNumber expected k ≡ false → lineFault expected (lineOf k q) ≡ lineLength
-  line-faultless low expected right =
-      faultless (lineOf k q) expected line-good (rw (number-back k q low fits) right)
+  module _ (wide : figureWidth ≤ y .text) (expected : ℕ) where
+    -- a line whose number has good digits and is wrong
+    pub fault-number : Good figureWidth → wrongNumber expected (numberIn l) ≡ true → lineFault y expected l ≡ 0
+    unfolding lineFault
+    fault-number good wrong = simp (first-none 0 figureWidth good, wrong)
 
--- so many lines are cut as are asked for
-pub cut-count : (n : ℕ) (s : List ℕ) → length (linesOf n s) ≡ n
-unfolding linesOf
-cut-count zero s = refl
-cut-count (suc n) s = ap suc (cut-count n (drop lineLength s))
+    -- a bad character, which is in the number or behind one that is right
+    pub fault-character : (place : ℕ) → place < lengthOf y → Good place → badAt y l place ≡ true
+        → (figureWidth ≤ place → wrongNumber expected (numberIn l) ≡ false) → lineFault y expected l ≡ place
+    unfolding lineFault
+    fault-character place inside good bad right =
+        elim (decLt place figureWidth) [
+          | yes h ↦ simp (first-found 0 figureWidth place (omega arith) h good bad, lt-ltb place figureWidth h)
+          | no h ↦
+              simp (
+                first-none 0 figureWidth (λ j g. good j (omega arith)),
+                right (omega arith),
+                first-found figureWidth (lengthOf y - figureWidth) place (omega arith) (omega arith) good bad,
+                lt-ltb place (lengthOf y) inside,
+              )
+        ]
 
--- every line of a list is as long as a line
-abbrev pub Lines : List (List ℕ) → Type 0
-Lines [] = Unit
-Lines (l ∷ ls) = (length l ≡ lineLength) × Lines ls
+    -- none is bad and the number is right: the late test is left
+    pub fault-late : Good (lengthOf y) → wrongNumber expected (numberIn l) ≡ false
+        → lineFault y expected l ≡ cond (y .late l) (y .latePlace) (lengthOf y)
+    unfolding lineFault
+    fault-late good right =
+        let all : figureWidth + (lengthOf y - figureWidth) ≡ lengthOf y = omega arith in
+        simp (
+          first-none 0 figureWidth (λ j g. good j (omega arith)),
+          right,
+          first-none figureWidth (lengthOf y - figureWidth) (λ j g. good j (omega arith)),
+          all,
+          le-ltb (lengthOf y) (lengthOf y) (omega arith),
+        )
 
--- such lines fill their count of line lengths
-pub bytes-length : (ls : List (List ℕ)) → Lines ls → length (bytesOf ls) ≡ length ls * lineLength
-bytes-length [] h = omega arith
-bytes-length (l ∷ ls) h = simp (length-append, h .0, bytes-length ls (h .1), suc-mul) (omega arith)
+    -- a line without a fault has a right number
+    faultless-right : ltb (lineFault y expected l) (lengthOf y) ≡ false → wrongNumber expected (numberIn l) ≡ false
+    unfolding lineFault
+    faultless-right = go (ltb (firstBad y l 0 figureWidth) figureWidth) refl (wrongNumber expected (numberIn l)) refl
+      where
+        go : (b : Bool) → ltb (firstBad y l 0 figureWidth) figureWidth ≡ b → (w : Bool) → wrongNumber expected (numberIn l) ≡ w
+            → ltb (lineFault y expected l) (lengthOf y) ≡ false → w ≡ false
+        go true early w e fine =
+            let low = ltb-true (firstBad y l 0 figureWidth) figureWidth early in
+            absurd (omega (arith, ltb-false (firstBad y l 0 figureWidth) (lengthOf y) (simp early at fine)))
+        go false late true e fine = absurd (omega (arith, ltb-false 0 (lengthOf y) (simp (late, e) at fine)))
+        go false late false e fine = refl
 
--- lines one after the other are cut into those lines
-pub lines-bytes : (ls : List (List ℕ)) (rest : List ℕ) → Lines ls → linesOf (length ls) (bytesOf ls ++ rest) ≡ ls
-unfolding linesOf
-lines-bytes [] rest h = refl
-lines-bytes (l ∷ ls) rest h =
-    simp (
-      append-assoc,
-      take-at l (bytesOf ls ++ rest) lineLength (h .0),
-      drop-at l (bytesOf ls ++ rest) lineLength (h .0),
-      lines-bytes ls rest (h .1),
-    )
+module _ (y : Layout) where
+  -- lines of which the first has no fault check as the rest does, and sound lines begin so
+  check-first : (l : List ℕ) (ls : List (List ℕ)) (expected at : ℕ) → checkLinesBy y expected at (l ∷ ls) .refusal ≡ 0
+      → (ltb (lineFault y expected l) (lengthOf y) ≡ false)
+      × (checkLinesBy y (numberIn l + 1) (at + lengthOf y) ls .refusal ≡ 0)
+  unfolding checkLinesBy
+  check-first l ls expected at = go (ltb (lineFault y expected l) (lengthOf y))
+    where
+      go : (b : Bool) → cond b (unsound (at + lineFault y expected l)) (checkLinesBy y (numberIn l + 1) (at + lengthOf y) ls) .refusal ≡ 0
+          → (b ≡ false) × (checkLinesBy y (numberIn l + 1) (at + lengthOf y) ls .refusal ≡ 0)
+      go true e = absurd (omega arith)
+      go false e = (refl, e)
 
--- the used length of such bytes gives their lines, and is good in a buffer that holds them
-pub used-lines : (ls : List (List ℕ)) (rest : List ℕ) → Lines ls
-    → linesOf (length (bytesOf ls) / lineLength) (bytesOf ls ++ rest) ≡ ls
-used-lines ls rest h =
-    simp (bytes-length ls h, mul-div-cancel (length ls) line-positive) (lines-bytes ls rest h)
+  -- lines that check sound do so with one more line at the end that has no fault
+  pub check-more : (ls : List (List ℕ)) (l : List ℕ) (expected at : ℕ) → checkLinesBy y expected at ls .refusal ≡ 0
+      → lineFault y (numberAfter expected ls) l ≡ lengthOf y → checkLinesBy y expected at (ls ++ (l ∷ [])) .refusal ≡ 0
+  unfolding checkLinesBy numberAfter
+  check-more [] l expected at good new = simp (new, le-ltb (lengthOf y) (lengthOf y) (omega arith))
+  check-more (m ∷ ls) l expected at good new =
+      let first = check-first m ls expected at good in
+      simp (first .0) (check-more ls l (numberIn m + 1) (at + lengthOf y) (first .1) new)
 
-pub used-good : (buffer : ℕ) (ls : List (List ℕ)) → Lines ls → length (bytesOf ls) ≤ buffer
-    → badUsed buffer (length (bytesOf ls)) ≡ false
-unfolding badUsed
-used-good buffer ls h room =
-    simp (bytes-length ls h, le-ltb buffer (length ls * lineLength) (omega (arith, bytes-length ls h)), mul-mod-left)
+  module _ (wide : figureWidth ≤ y .text) where
+    -- the numbers of sound lines rise by one, from the expected one where one is expected
+    rising : (ls : List (List ℕ)) (expected at k : ℕ) → 0 < expected → checkLinesBy y expected at ls .refusal ≡ 0
+        → k < length ls → numberIn (getD ls k []) ≡ expected + k
+    rising [] expected at k some good h = absurd (omega arith)
+    rising (l ∷ ls) expected at zero some good h =
+        omega (
+          arith,
+          right-same expected (numberIn l) some
+              (faultless-right y l wide expected (check-first l ls expected at good .0)),
+        )
+    rising (l ∷ ls) expected at (suc k) some good h =
+        let first = check-first l ls expected at good in
+        let same = right-same expected (numberIn l) some (faultless-right y l wide expected (first .0)) in
+        omega (arith, rising ls (numberIn l + 1) (at + lengthOf y) k (omega arith) (first .1) (omega arith))
+
+    -- so a sound register's line k has the first line's number plus k
+    pub sound-number : (ls : List (List ℕ)) (at k : ℕ) → checkLinesBy y 0 at ls .refusal ≡ 0 → k < length ls
+        → numberIn (getD ls k []) ≡ numberIn (getD ls 0 []) + k
+    sound-number [] at k good h = absurd (omega arith)
+    sound-number (l ∷ ls) at zero good h = omega arith
+    sound-number (l ∷ ls) at (suc k) good h =
+        omega (arith, rising ls (numberIn l + 1) (at + lengthOf y) k (omega arith) (check-first l ls 0 at good .1) (omega arith))
+
+-- a good used length lies in the buffer and is whole lines
+module _ (y : Layout) where
+  pub used-sound : (buffer used : ℕ) → badUsedBy y buffer used ≡ false → (used ≤ buffer) × (used % lengthOf y ≡ 0)
+  unfolding badUsedBy
+  used-sound buffer used e =
+      let exact = not-false (eqb (used % lengthOf y) 0) (or-right (ltb buffer used) _ e) in
+      (ltb-false buffer used (or-left (ltb buffer used) _ e), eqb-true (used % lengthOf y) 0 exact)
+
+  pub whole-used : (buffer : ℕ) (ls : List (List ℕ)) → Whole y ls → usedBy ls ≤ buffer → badUsedBy y buffer (usedBy ls) ≡ false
+  unfolding badUsedBy
+  whole-used buffer ls h room =
+      simp (whole-length y ls h, le-ltb buffer (length ls * lengthOf y) (omega (arith, whole-length y ls h)), mul-mod-left)
+
+  -- a register without a fault has a good used length and sound lines
+  pub check-sound : (r : Register) → checkBy y r .refusal ≡ 0
+      → (r .used ≤ length (r .bytes)) × (r .used % lengthOf y ≡ 0) × (checkLinesBy y 0 0 (usedLinesBy y r) .refusal ≡ 0)
+  unfolding checkBy
+  check-sound r = go (badUsedBy y (length (r .bytes)) (r .used)) refl
+    where
+      go : (b : Bool) → badUsedBy y (length (r .bytes)) (r .used) ≡ b
+          → cond b (unsound (r .used)) (checkLinesBy y 0 0 (usedLinesBy y r)) .refusal ≡ 0
+          → (r .used ≤ length (r .bytes)) × (r .used % lengthOf y ≡ 0) × (checkLinesBy y 0 0 (usedLinesBy y r) .refusal ≡ 0)
+      go true bad e = absurd (omega arith)
+      go false fine e = let u = used-sound (length (r .bytes)) (r .used) fine in (u .0, u .1, e)
+
+-- the layout of a line has room for its number, and a written line has no fault where its number is right
+pub number-inside : figureWidth ≤ textLength
+unfolding textLength
+number-inside = omega arith
+
+written-good : (k : ℕ) (c : List ℕ) → Good lineLayout (lineFor k c) lineLength
+unfolding badAt
+written-good k c i h =
+    elim (decLt i textLength) [
+      | yes l ↦ simp (lt-ltb i textLength l, line-digit k c i l)
+      | no l ↦
+          let e : i ≡ textLength = omega arith in
+          simp (e, le-ltb textLength textLength (omega arith), line-end k c)
+    ]
+
+pub written-faultless : (k : ℕ) (c : List ℕ) → k < 4294967296 → (expected : ℕ) → wrongNumber expected k ≡ false
+    → lineFault lineLayout expected (lineFor k c) ≡ lineLength
+written-faultless k c low expected right =
+    fault-late lineLayout (lineFor k c) number-inside expected (written-good k c) (rw (number-back k c low) right)

@@ -1,12 +1,17 @@
-pub mod AnyLaws
-pub mod LineLaws
+-- Names: `XLaws` has laws of the definitions of specs/X; `XLoop` has what a turn of a loop of src/ does, in the code's numbers;
+-- every other file is named for the argument that it makes.
 pub mod CheckLaws
-pub mod FindLaws
+pub mod CheckLoop
+pub mod Demands
 pub mod FileLaws
+pub mod FileLoop
+pub mod FindLaws
+pub mod FindLoop
+pub mod LayoutLaws
 pub mod LedgerLaws
-pub mod CheckingLaws
-pub mod FindingLaws
-pub mod ListClaims
-pub mod WritingLaws
-pub mod SoundLaws
-pub mod FilingLaws
+pub mod LineLaws
+pub mod LineLoop
+pub mod Shown
+pub mod StepLaws
+pub mod TextLaws
+pub mod TextLoop

@@ -1,122 +1,166 @@
 -- A line of a register: its length, that every character before the newline is a digit, and that read back it gives the
--- figures it was written from, field by field for any widths. Assumes nothing.
-use Prim.Native.Nat.{ℕ, zero, suc, _*_, _^_, _<_}
+-- figures it was written from: for any list of figures, and by induction on the shares. Assumes nothing.
+use Prim.Native.Nat.{ℕ, zero, suc, _+_, _*_, _<_}
 use mathlib.Core.Bool.{false}
 use mathlib.Core.List.{List, [], _∷_, _++_, append-assoc}
 use mathlib.Core.Path.{_≡_, refl, _∙_, ap}
 use native.Mathlib.Omega.{arith}
-use lib.Dec.{eqb}
 use lib.ListN.{length, getD, length-append, List·getD-append}
 use lib.Seq.{getD-at}
 use Rattle.split.specs.declared.answers.Share.{Share}
-use Rattle.split.specs.declared.answers.Quote.{Quote}
-use Rattle.split.specs.Frame.{hexValue, badCharacter, hexText}
-use Rattle.split.specs.Quote.{SharesFit, QuoteFits, lumpsIn as shareLumps}
-use Rattle.calendar.proofs.TestLaws.{any-none, any-append}
-use Rattle.register.specs.Line.{fieldWidths, widthOf, textLength, lineLength, fieldsText, shareFigures, figuresOf, lineOf, fieldsAt, figuresIn, numberIn, memberIn, totalIn, firstOfThree, lumpsInLine}
-use Rattle.split.proofs.HexLaws.{hex-length, hex-good, hex-back}
+use Rattle.split.specs.Frame.{noDigit, badCharacter, numberAt, hexText}
+use Rattle.split.specs.Quote.{quoteOf, SharesFit, QuoteFits, lumpsIn}
+use Rattle.split.proofs.FrameLaws.{digit-known}
+use Rattle.split.proofs.HexLaws.{hex-length, hex-good, hex-back, good-append, good-none}
+use Rattle.split.proofs.QuoteLaws.{quote-fits}
+use Rattle.register.specs.Line.{figureWidth, headerLength, shareLength, shareCount, textLength, Figures, figuresOf, figuresFor, headerFigures, shareFigures, figuresText, sharesText, lineText, lineFor, numberIn, memberIn, totalIn, shareAt, sharesAt, sharesIn, figuresIn, lumpsInLine}
 
--- fields of any widths: their text's length, that it is all digits, and that it is read back
-pub fields-length : (ws xs : List ℕ) → length xs ≡ length ws → length (fieldsText ws xs) ≡ widthOf ws
-unfolding fieldsText
-fields-length [] xs count = refl
-fields-length (w ∷ ws) [] count = absurd (omega arith)
-fields-length (w ∷ ws) (x ∷ xs) count = simp (length-append, hex-length w x, fields-length ws xs (omega arith))
+-- figures one after the other: their text's length, that it is all digits, and that it is read back
+pub figures-length : (xs : List ℕ) → length (figuresText xs) ≡ length xs * figureWidth
+unfolding figuresText
+figures-length [] = omega arith
+figures-length (x ∷ xs) = simp (length-append, hex-length, figures-length xs) (omega arith)
 
-fields-good : (ws xs : List ℕ) → badCharacter (fieldsText ws xs) ≡ false
-unfolding fieldsText badCharacter
-fields-good [] xs = refl
-fields-good (w ∷ ws) [] = refl
-fields-good (w ∷ ws) (x ∷ xs) =
-    any-append (λ (c : ℕ). eqb (hexValue c) 16) (hexText w x) (fieldsText ws xs) ∙ simp (hex-good w x, fields-good ws xs)
+figures-good : (xs : List ℕ) → badCharacter (figuresText xs) ≡ false
+unfolding figuresText
+figures-good [] = good-none
+figures-good (x ∷ xs) = good-append _ _ (hex-good figureWidth x) (figures-good xs)
 
--- a number for each field, and each below its field's bound
-abbrev pub Fit : List ℕ → List ℕ → Type 0
-Fit [] [] = Unit
-Fit [] (x ∷ xs) = ⊥
-Fit (w ∷ ws) [] = ⊥
-Fit (w ∷ ws) (x ∷ xs) = (x < 16 ^ w) × Fit ws xs
+-- n figures of a text, from a place on
+abbrev figuresAt : List ℕ → ℕ → ℕ → List ℕ
+figuresAt l at zero = []
+figuresAt l at (suc n) = numberAt l at figureWidth ∷ figuresAt l (at + figureWidth) n
 
-fields-back : (ws xs pre rest : List ℕ) → Fit ws xs → fieldsAt ws (pre ++ (fieldsText ws xs ++ rest)) (length pre) ≡ xs
-unfolding fieldsText
-fields-back [] [] pre rest fit = refl
-fields-back [] (x ∷ xs) pre rest fit = absurd fit
-fields-back (w ∷ ws) [] pre rest fit = absurd fit
-fields-back (w ∷ ws) (x ∷ xs) pre rest fit =
+-- each fits its digits
+abbrev Fit : List ℕ → Type 0
+Fit [] = Unit
+Fit (x ∷ xs) = (x < 4294967296) × Fit xs
+
+figures-behind : (xs pre rest : List ℕ) → Fit xs → figuresAt (pre ++ (figuresText xs ++ rest)) (length pre) (length xs) ≡ xs
+unfolding figuresText
+figures-behind [] pre rest fit = refl
+figures-behind (x ∷ xs) pre rest fit =
     simp (
       append-assoc,
-      hex-back pre (fieldsText ws xs ++ rest) w x (fit .0),
-      simp (append-assoc, length-append, hex-length) at (fields-back ws xs (pre ++ hexText w x) rest (fit .1)),
+      hex-back pre (figuresText xs ++ rest) figureWidth x (fit .0),
+      simp (append-assoc, length-append, hex-length) at (figures-behind xs (pre ++ hexText figureWidth x) rest (fit .1)),
     )
 
--- three figures to a share
-pub share-count : (xs : List Share) → length (shareFigures xs) ≡ length xs * 3
-share-count [] = refl
-share-count (x ∷ xs) = omega (arith, share-count xs)
+-- a share by its three figures, and the shares behind any text
+share-behind : (l : List ℕ) (at : ℕ) (x : Share) → figuresAt l at 3 ≡ shareFigures x → shareAt l at ≡ x
+share-behind l at x e =
+    let third : at + 16 ≡ at + figureWidth + figureWidth = omega arith in
+    λ i. record {
+      lump = record { 0 = ap (λ (xs : List ℕ). getD xs 0 0) e i };
+      remaining = record { 0 = ap (λ (xs : List ℕ). getD xs 1 0) e i };
+      second = record { 0 = (ap (λ (n : ℕ). numberAt l n figureWidth) third ∙ ap (λ (xs : List ℕ). getD xs 2 0) e) i };
+    }
 
--- the widths of n shares
-abbrev shareWidths : ℕ → List ℕ
-shareWidths zero = []
-shareWidths (suc n) = 8 ∷ 8 ∷ 8 ∷ shareWidths n
+shares-behind : (xs : List Share) (pre rest : List ℕ) → SharesFit xs
+    → sharesAt (pre ++ (sharesText xs ++ rest)) (length pre) (length xs) ≡ xs
+unfolding sharesText
+shares-behind [] pre rest fit = refl
+shares-behind (x ∷ xs) pre rest fit =
+    simp (
+      append-assoc,
+      share-behind _ (length pre) x
+          (figures-behind (shareFigures x) pre (sharesText xs ++ rest) (fit .0, (fit .1, (fit .2, tt)))),
+      simp (append-assoc, length-append, figures-length (shareFigures x)) at
+          (shares-behind xs (pre ++ figuresText (shareFigures x)) rest (fit .3)),
+    )
 
--- figures of 32 bits fit eight digits
-shares-fit : (xs : List Share) → SharesFit xs → Fit (shareWidths (length xs)) (shareFigures xs)
-shares-fit [] fit = tt
-shares-fit (x ∷ xs) fit = (fit .0, (fit .1, (fit .2, shares-fit xs (fit .3))))
+pub shares-length : (xs : List Share) → length (sharesText xs) ≡ length xs * shareLength
+unfolding sharesText
+shares-length [] = omega arith
+shares-length (x ∷ xs) = simp (length-append, figures-length, shares-length xs) (omega arith)
 
--- the lumps of shares are the first of each three figures
-share-lumps : (xs : List Share) → firstOfThree (shareFigures xs) ≡ shareLumps xs
-share-lumps [] = refl
-share-lumps (x ∷ xs) = ap (λ (l : List ℕ). x .lump .0 ∷ l) (share-lumps xs)
+shares-good : (xs : List Share) → badCharacter (sharesText xs) ≡ false
+unfolding sharesText
+shares-good [] = good-none
+shares-good (x ∷ xs) = good-append _ _ (figures-good (shareFigures x)) (shares-good xs)
 
-module _ (k : ℕ) (q : Quote) (fits : QuoteFits q) where
-  -- a figure for each field
-  figures-count : length (figuresOf k q) ≡ length fieldWidths
-  unfolding fieldWidths figuresOf
-  figures-count = omega (arith, share-count (q .shares))
+-- a line of any figures: the characters before the newline
+abbrev before : Figures → List ℕ
+before f = figuresText (headerFigures f) ++ sharesText (f .shares)
 
-  text-length : length (fieldsText fieldWidths (figuresOf k q)) ≡ textLength
+line-before : (f : Figures) → lineText f ≡ before f ++ (10 ∷ [])
+unfolding lineText
+line-before f = simp append-assoc
+
+module _ (f : Figures) (four : length (f .shares) ≡ shareCount) where
+  pub before-length : length (before f) ≡ textLength
   unfolding textLength
-  text-length = fields-length fieldWidths (figuresOf k q) figures-count
+  before-length = simp (length-append, figures-length, shares-length, four)
 
-  pub line-length : length (lineOf k q) ≡ lineLength
-  unfolding lineOf lineLength
-  line-length = simp (length-append, text-length)
+  pub text-length : length (lineText f) ≡ textLength + 1
+  text-length = rw (line-before f, length-append (before f) (10 ∷ []), before-length)
 
-  -- the characters before the newline, and the newline
-  pub line-digit : (i : ℕ) → i < textLength → eqb (hexValue (getD (lineOf k q) i 0)) 16 ≡ false
-  unfolding lineOf badCharacter
-  line-digit i h =
-      rw (List·getD-append (fieldsText fieldWidths (figuresOf k q)) (10 ∷ []) 0 i (omega (arith, text-length)))
-      (any-none (λ (c : ℕ). eqb (hexValue c) 16) (fieldsText fieldWidths (figuresOf k q)) 0
-      (fields-good fieldWidths (figuresOf k q)) i (omega (arith, text-length)))
+  text-digit : (i : ℕ) → i < textLength → noDigit (getD (lineText f) i 0) ≡ false
+  text-digit i h =
+      rw (line-before f, List·getD-append (before f) (10 ∷ []) 0 i (omega (arith, before-length)))
+      (digit-known (before f) i (good-append _ _ (figures-good (headerFigures f)) (shares-good (f .shares))) (omega (arith, before-length)))
 
-  pub line-end : getD (lineOf k q) textLength 0 ≡ 10
-  unfolding lineOf
-  line-end = getD-at (fieldsText fieldWidths (figuresOf k q)) 10 [] 0 textLength text-length
+  text-end : getD (lineText f) textLength 0 ≡ 10
+  text-end = rw (line-before f) (getD-at (before f) 10 [] 0 textLength before-length)
 
-module _ (k : ℕ) (q : Quote) (low : k < 4294967296) (fits : QuoteFits q) where
-  -- the line gives its figures back
-  figures-fit : Fit fieldWidths (figuresOf k q)
-  unfolding fieldWidths figuresOf
-  figures-fit = (low, (fits .member, (fits .total, rw (fits .four) at (shares-fit (q .shares) (fits .shares)))))
+  module _ (header : Fit (headerFigures f)) (fits : SharesFit (f .shares)) where
+    header-back : figuresAt (lineText f) 0 3 ≡ headerFigures f
+    unfolding lineText
+    header-back = figures-behind (headerFigures f) [] _ header
 
-  pub figures-back : figuresIn (lineOf k q) ≡ figuresOf k q
-  unfolding figuresIn lineOf
-  figures-back = fields-back fieldWidths (figuresOf k q) [] (10 ∷ []) figures-fit
+    shares-back : sharesIn (lineText f) ≡ f .shares
+    unfolding sharesIn lineText
+    shares-back =
+        rw four at
+        (simp (figures-length (headerFigures f)) at
+        (shares-behind (f .shares) (figuresText (headerFigures f)) (10 ∷ []) fits))
 
-  pub number-back : numberIn (lineOf k q) ≡ k
-  unfolding numberIn figuresOf
-  number-back = simp figures-back
+-- the line of a case under a number
+module _ (k : ℕ) (c : List ℕ) where
+  four : length (figuresFor k c .shares) ≡ shareCount
+  unfolding figuresFor figuresOf
+  four = quote-fits c .four
 
-  pub member-back : memberIn (lineOf k q) ≡ q .member
-  unfolding memberIn figuresOf
-  member-back = simp figures-back
+  pub line-length : length (lineFor k c) ≡ textLength + 1
+  unfolding lineFor
+  line-length = text-length (figuresFor k c) four
 
-  pub total-back : totalIn (lineOf k q) ≡ q .total .0
-  unfolding totalIn figuresOf
-  total-back = simp figures-back
+  pub line-digit : (i : ℕ) → i < textLength → noDigit (getD (lineFor k c) i 0) ≡ false
+  unfolding lineFor
+  line-digit = text-digit (figuresFor k c) four
 
-  pub lumps-back : lumpsInLine (lineOf k q) ≡ shareLumps (q .shares)
-  unfolding lumpsInLine figuresOf
-  lumps-back = simp figures-back (share-lumps (q .shares))
+  pub line-end : getD (lineFor k c) textLength 0 ≡ 10
+  unfolding lineFor
+  line-end = text-end (figuresFor k c) four
+
+  module _ (low : k < 4294967296) where
+    header-read : figuresAt (lineFor k c) 0 3 ≡ headerFigures (figuresFor k c)
+    unfolding lineFor figuresFor figuresOf
+    header-read =
+        header-back (figuresFor k c) four (low, (quote-fits c .member, (quote-fits c .total, tt))) (quote-fits c .shares)
+
+    shares-read : sharesIn (lineFor k c) ≡ quoteOf c .shares
+    unfolding lineFor figuresFor figuresOf
+    shares-read =
+        shares-back (figuresFor k c) four (low, (quote-fits c .member, (quote-fits c .total, tt))) (quote-fits c .shares)
+
+    pub number-back : numberIn (lineFor k c) ≡ k
+    unfolding numberIn figuresFor figuresOf
+    number-back = ap (λ (xs : List ℕ). getD xs 0 0) header-read
+
+    pub total-back : totalIn (lineFor k c) ≡ quoteOf c .total .0
+    unfolding totalIn figuresFor figuresOf
+    total-back = ap (λ (xs : List ℕ). getD xs 2 0) header-read
+
+    pub lumps-back : lumpsInLine (lineFor k c) ≡ lumpsIn (quoteOf c .shares)
+    unfolding lumpsInLine
+    lumps-back = ap lumpsIn shares-read
+
+    pub figures-back : figuresIn (lineFor k c) ≡ figuresFor k c
+    unfolding figuresIn memberIn figuresFor figuresOf
+    figures-back = λ i. record {
+      number = number-back i;
+      member = ap (λ (xs : List ℕ). getD xs 1 0) header-read i;
+      total = total-back i;
+      shares = shares-read i;
+    }

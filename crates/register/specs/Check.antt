@@ -1,39 +1,27 @@
--- The check of a register ("Register" and refusal 11 of document 01). The used part is cut into lines once; the check
--- goes along them and stops at the first bad character of the first bad line. Assumes nothing.
-use Prim.Native.Nat.{ℕ, zero, suc, _+_, _-_, _/_, _%_}
+-- The check of a register ("Register" and refusal 11 of document 01), for any layout of a line. The used part is cut into
+-- lines; the check goes along them and stops at the first bad character of the first bad line. Assumes nothing.
+use Prim.Native.Nat.{ℕ, zero, suc, _+_, _-_, _%_}
 use mathlib.Core.Bool.{Bool, cond, not, _||_}
 use mathlib.Core.List.{List, [], _∷_}
 use lib.Dec.{ltb, eqb}
-use lib.ListN.{length, getD, take, drop}
-use Rattle.split.specs.Frame.{hexValue}
+use lib.ListN.{length, getD}
+use Rattle.split.specs.Frame.{noDigit}
 use Rattle.register.specs.declared.answers.Checked.{Checked}
-use Rattle.register.specs.Line.{numberWidth, textLength, lineLength, numberIn}
+use Rattle.register.specs.Line.{figureWidth, numberIn}
+use Rattle.register.specs.Layout.{Register, Layout, lengthOf, usedLinesBy, lineLayout}
 
--- the first n lines
-unfoldable pub linesOf : ℕ → List ℕ → List (List ℕ)
-linesOf zero s = []
-linesOf (suc n) s = take lineLength s ∷ linesOf n (drop lineLength s)
+-- the number that a line after these must have, where the first of them had to have the expected one; 0 stands for any from 1
+unfoldable pub numberAfter : ℕ → List (List ℕ) → ℕ
+numberAfter expected [] = expected
+numberAfter expected (l ∷ ls) = numberAfter (numberIn l + 1) ls
 
--- "The layout is those 120 digits and the newline, no more"
-unfoldable pub badAt : List ℕ → ℕ → Bool
-badAt l i = cond (ltb i textLength) (eqb (hexValue (getD l i 0)) 16) (not (eqb (getD l i 0) 10))
+-- the number that a next line must have: the last plus one, and 0 where there is no line
+abbrev pub nextNumber : List (List ℕ) → ℕ
+nextNumber ls = numberAfter 0 ls
 
--- the place of the first bad character among k from i on; i + k where there is none
-unfoldable pub firstBad : List ℕ → ℕ → ℕ → ℕ
-firstBad l i zero = i
-firstBad l i (suc k) = cond (badAt l i) i (firstBad l (suc i) k)
-
--- "Numbers rise by one; the first may be any from 1": expected is the number a line must have, and 0 before the first
+-- "Numbers rise by one; the first may be any from 1"
 unfoldable pub wrongNumber : ℕ → ℕ → Bool
 wrongNumber expected number = cond (eqb expected 0) (eqb number 0) (not (eqb number expected))
-
--- the place of a line's fault, and the line's length where it has none: "a wrong number whose eight digits are good is
--- bad at the line's first character, even if a bad character follows"
-unfoldable pub lineFault : ℕ → List ℕ → ℕ
-lineFault expected l =
-    cond (ltb (firstBad l 0 numberWidth) numberWidth) (firstBad l 0 numberWidth)
-    (cond (wrongNumber expected (numberIn l)) 0
-    (firstBad l numberWidth (lineLength - numberWidth)))
 
 -- no refusal: offset 0
 abbrev pub sound : Checked
@@ -43,18 +31,46 @@ sound = record { refusal = 0; offset = 0 }
 abbrev pub unsound : ℕ → Checked
 unsound at = record { refusal = 11; offset = at }
 
+-- the character at a place of a line may not stand there: a digit before the newline's place, and a newline at it
+unfoldable pub badAt : Layout → List ℕ → ℕ → Bool
+badAt y l i = cond (ltb i (y .text)) (noDigit (getD l i 0)) (not (eqb (getD l i 0) 10))
+
+-- the place of the first bad character among n from i on; i + n where there is none
+unfoldable pub firstBad : Layout → List ℕ → ℕ → ℕ → ℕ
+firstBad y l i zero = i
+firstBad y l i (suc n) = cond (badAt y l i) i (firstBad y l (suc i) n)
+
+-- the place of a line's fault, and the line's length where it has none: "a wrong number whose eight digits are good is
+-- bad at the line's first character, even if a bad character follows"; the late test comes last
+unfoldable pub lineFault : Layout → ℕ → List ℕ → ℕ
+lineFault y expected l =
+    cond (ltb (firstBad y l 0 figureWidth) figureWidth) (firstBad y l 0 figureWidth)
+    (cond (wrongNumber expected (numberIn l)) 0
+    (cond (ltb (firstBad y l figureWidth (lengthOf y - figureWidth)) (lengthOf y)) (firstBad y l figureWidth (lengthOf y - figureWidth))
+    (cond (y .late l) (y .latePlace)
+    (lengthOf y))))
+
 -- the lines from an offset on, of which the first must have the expected number
-unfoldable pub checkLines : ℕ → ℕ → List (List ℕ) → Checked
-checkLines expected at [] = sound
-checkLines expected at (l ∷ ls) =
-    cond (ltb (lineFault expected l) lineLength)
-    (unsound (at + lineFault expected l))
-    (checkLines (numberIn l + 1) (at + lineLength) ls)
+unfoldable pub checkLinesBy : Layout → ℕ → ℕ → List (List ℕ) → Checked
+checkLinesBy y expected at [] = sound
+checkLinesBy y expected at (l ∷ ls) =
+    cond (ltb (lineFault y expected l) (lengthOf y))
+    (unsound (at + lineFault y expected l))
+    (checkLinesBy y (numberIn l + 1) (at + lengthOf y) ls)
 
 -- "Used length above the buffer, no multiple of 121"
-unfoldable pub badUsed : ℕ → ℕ → Bool
-badUsed buffer used = ltb buffer used || not (eqb (used % lineLength) 0)
+unfoldable pub badUsedBy : Layout → ℕ → ℕ → Bool
+badUsedBy y buffer used = ltb buffer used || not (eqb (used % lengthOf y) 0)
 
 -- the check: "a bad used length is tested first and gives itself"
-unfoldable pub checkOf : List ℕ → ℕ → Checked
-checkOf s used = cond (badUsed (length s) used) (unsound used) (checkLines 0 0 (linesOf (used / lineLength) s))
+unfoldable pub checkBy : Layout → Register → Checked
+checkBy y r = cond (badUsedBy y (length (r .bytes)) (r .used)) (unsound (r .used)) (checkLinesBy y 0 0 (usedLinesBy y r))
+
+abbrev pub checkLines : ℕ → ℕ → List (List ℕ) → Checked
+checkLines expected at ls = checkLinesBy lineLayout expected at ls
+
+abbrev pub badUsed : ℕ → ℕ → Bool
+badUsed buffer used = badUsedBy lineLayout buffer used
+
+abbrev pub checkOf : Register → Checked
+checkOf r = checkBy lineLayout r

@@ -1,24 +1,31 @@
--- Filing a case ("Register" and "Refusals from the state" of document 01): the answer and every byte. Assumes nothing.
-use Prim.Native.Nat.{ℕ, _+_, _-_, _/_}
+-- Filing a case ("Register" and "Refusals from the state" of document 01): a step of the register. Assumes nothing.
+use Prim.Native.Nat.{ℕ, _+_, _-_}
 use mathlib.Core.Bool.{Bool, cond, not}
 use mathlib.Core.List.{List, [], _∷_, _++_}
-use lib.Dec.{ltb, eqb}
+use lib.Dec.{leb, ltb, eqb}
 use lib.ListN.{length, take, drop}
-use Rattle.split.specs.Refusal.{refusalOf}
 use Rattle.calendar.specs.Tests.{lowest}
-use Rattle.split.specs.Quote.{quoteOf}
+use Rattle.split.specs.Refusal.{refusalOf}
 use Rattle.register.specs.declared.answers.Filed.{Filed}
-use Rattle.register.specs.Line.{lineLength, lineOf, numberIn}
-use Rattle.register.specs.Check.{linesOf, checkOf}
+use Rattle.register.specs.Line.{lineFor}
+use Rattle.register.specs.Layout.{Register, lineLength, usedLines}
+use Rattle.register.specs.Check.{nextNumber, checkOf}
+use Rattle.register.specs.Steps.{Step, runs}
 
--- the number after lines: the last plus one, and a given first number where there is no line
-abbrev pub nextNumber : ℕ → List (List ℕ) → ℕ
-nextNumber first [] = first
-nextNumber first (l ∷ ls) = nextNumber (numberIn l + 1) ls
+-- what is filed: a case line
+pub record Filing : Type 0 where
+  pub line : List ℕ
+
+abbrev pub filing : List ℕ → Filing
+filing c = record { line = c }
 
 -- "number 1 in an empty register"
 abbrev pub firstNumber : ℕ
 firstNumber = 1
+
+-- "number 1 in an empty register, else the last plus one": the number that filing gives behind lines
+unfoldable pub numberGiven : List (List ℕ) → ℕ
+numberGiven ls = cond (eqb (nextNumber ls) 0) firstNumber (nextNumber ls)
 
 -- 12. "Fewer than 121 bytes free"
 abbrev pub noSpace : ℕ → ℕ → Bool
@@ -26,47 +33,41 @@ noSpace buffer used = ltb (buffer - used) lineLength
 
 -- 13. "Last number is FFFFFFFF": the next would not fit eight digits
 abbrev pub lastTaken : List (List ℕ) → Bool
-lastTaken ls = eqb (nextNumber firstNumber ls) 4294967296
+lastTaken ls = leb 4294967296 (nextNumber ls)
 
--- "Filing gives these after all of the above": refusals 1 to 10 of the case, then 11, 12, 13
-unfoldable pub fileRefusal : List ℕ → ℕ → List ℕ → ℕ
-fileRefusal s used c =
-    cond (eqb (refusalOf c) 0)
-    (lowest 11
-    (not (eqb (checkOf s used .refusal) 0) ∷
-    noSpace (length s) used ∷
-    lastTaken (linesOf (used / lineLength) s) ∷ []))
-    (refusalOf c)
+-- "Filing gives these after all of the above": refusals 1 to 10 of the case, then 11, 12 and 13 of the state
+unfoldable pub refusalGiven : Filing → Bool → ℕ → ℕ → List (List ℕ) → ℕ
+refusalGiven f unsound buffer used ls =
+    cond (eqb (refusalOf (f .line)) 0) (lowest 11 (unsound ∷ noSpace buffer used ∷ lastTaken ls ∷ [])) (refusalOf (f .line))
 
--- the answer: the used length past the new line, or the refusal and 0
-unfoldable pub fileAnswer : List ℕ → ℕ → List ℕ → Filed
-fileAnswer s used c =
-    cond (eqb (fileRefusal s used c) 0)
-    (record { refusal = 0; used = used + lineLength })
-    (record { refusal = fileRefusal s used c; used = 0 })
+unfoldable pub fileRefusal : Register → Filing → ℕ
+fileRefusal r f =
+    refusalGiven f (not (eqb (checkOf r .refusal) 0)) (length (r .bytes)) (r .used) (usedLines r)
 
--- the used length from then on
-unfoldable pub usedAfter : List ℕ → ℕ → List ℕ → ℕ
-usedAfter s used c = cond (eqb (fileRefusal s used c) 0) (used + lineLength) used
+-- an answer: no refusal and the used length past the new line, or the refusal and 0
+unfoldable pub filedAnswer : ℕ → ℕ → Filed
+filedAnswer refusal used = cond (eqb refusal 0) (record { refusal = 0; used = used }) (record { refusal = refusal; used = 0 })
 
--- "writes the next line after the used part and no other byte"
-unfoldable pub bytesAfter : List ℕ → ℕ → List ℕ → List ℕ
-bytesAfter s used c =
-    cond (eqb (fileRefusal s used c) 0)
-    (take used s ++
-    (lineOf (nextNumber firstNumber (linesOf (used / lineLength) s)) (quoteOf c) ++ drop (used + lineLength) s))
-    s
+-- what filing writes: the next line, and nothing under a refusal
+unfoldable pub textFiled : Register → Filing → List ℕ
+textFiled r f = cond (eqb (fileRefusal r f) 0) (lineFor (numberGiven (usedLines r)) (f .line)) []
 
--- "Each filing gets the buffer and the used length as the one before left them": the answers of a list of filings, and the
--- buffer and the used length after it
-unfoldable pub answersOf : List ℕ → ℕ → List (List ℕ) → List Filed
-answersOf s used [] = []
-answersOf s used (c ∷ cs) = fileAnswer s used c ∷ answersOf (bytesAfter s used c) (usedAfter s used c) cs
+-- a text written over bytes from a place on, "and no other byte"
+abbrev pub over : ℕ → List ℕ → List ℕ → List ℕ
+over at x s = take at s ++ (x ++ drop (at + length x) s)
 
-unfoldable pub bufferOf : List ℕ → ℕ → List (List ℕ) → List ℕ
-bufferOf s used [] = s
-bufferOf s used (c ∷ cs) = bufferOf (bytesAfter s used c) (usedAfter s used c) cs
+-- "after the used part", which is then longer by the text
+abbrev pub grown : Register → List ℕ → Register
+grown r x = record { bytes = over (r .used) x (r .bytes); used = r .used + length x }
 
-unfoldable pub usedOf : List ℕ → ℕ → List (List ℕ) → ℕ
-usedOf s used [] = used
-usedOf s used (c ∷ cs) = usedOf (bytesAfter s used c) (usedAfter s used c) cs
+-- filing: the answer, and the register from then on
+unfoldable pub fileStep : Register → Filing → Step Filed Register
+fileStep r f =
+    record {
+      answer = filedAnswer (fileRefusal r f) (grown r (textFiled r f) .used);
+      state = grown r (textFiled r f);
+    }
+
+-- "Each filing gets the buffer and the used length as the one before left them"
+abbrev pub fileRun : Register → List Filing → Step (List Filed) Register
+fileRun r fs = runs fileStep r fs

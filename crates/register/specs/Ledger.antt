@@ -1,5 +1,5 @@
--- The ledger, which is the "plain book" of document 01, and the claim of demand 3 about a list of filings. It is fed the case
--- line and the buffer's length, never the register's content; its state is a list of register lines. Assumes nothing.
+-- The ledger, which is the "plain book" of document 01, and the claim of demand 3 about a list of filings. The ledger is fed
+-- each filing and the buffer's length, never the register's content. Assumes nothing.
 use Prim.Native.Nat.{ℕ, _+_, _<_}
 use mathlib.Core.Bool.{cond, not, _||_}
 use mathlib.Core.List.{List, [], _∷_, _++_}
@@ -7,79 +7,78 @@ use mathlib.Core.Path.{_≡_}
 use lib.Dec.{eqb}
 use lib.ListN.{length, getD, drop}
 use Rattle.split.specs.Refusal.{refusalOf}
-use Rattle.calendar.specs.Tests.{lowest}
-use Rattle.split.specs.Quote.{quoteOf, BestLumps}
+use Rattle.split.specs.Quote.{BestLumps}
 use Rattle.register.specs.declared.answers.Filed.{Filed}
-use Rattle.register.specs.Line.{lineOf, figuresOf, figuresIn, totalIn, lumpsInLine}
+use Rattle.register.specs.Line.{figuresFor, figuresIn, lineFor, totalIn, lumpsInLine}
+use Rattle.register.specs.Layout.{Register, bytesOf, usedBy}
 use Rattle.register.specs.Check.{badUsed, checkLines}
-use Rattle.register.specs.File.{nextNumber, firstNumber, noSpace, lastTaken}
+use Rattle.register.specs.Steps.{Step, runs}
+use Rattle.register.specs.File.{Filing, filing, firstNumber, numberGiven, refusalGiven, filedAnswer}
 
--- lines one after the other: "which stand for the used part"
-abbrev pub bytesOf : List (List ℕ) → List ℕ
-bytesOf [] = []
-bytesOf (l ∷ ls) = l ++ bytesOf ls
+-- "Its state is a list of register lines, none at first, which stand for the used part"; beside them stand the filings granted so far, of which nothing is asked
+-- but by the claim below
+pub record Ledger : Type 0 where
+  pub lines : List (List ℕ)
+  pub granted : List Filing
+
+abbrev pub emptyLedger : Ledger
+emptyLedger = record { lines = []; granted = [] }
 
 -- "Refusals 1 to 10 are tested on the case line, 11 to 13 on the book's lines in a buffer of that length. If any applies,
 -- the lowest is the book's refusal"
-unfoldable pub ledgerRefusal : ℕ → List (List ℕ) → List ℕ → ℕ
-ledgerRefusal buffer ls c =
-    cond (eqb (refusalOf c) 0)
-    (lowest 11
-    ((badUsed buffer (length (bytesOf ls)) || not (eqb (checkLines 0 0 ls .refusal) 0)) ∷
-    noSpace buffer (length (bytesOf ls)) ∷
-    lastTaken ls ∷ []))
-    (refusalOf c)
+unfoldable pub ledgerRefusal : ℕ → Ledger → Filing → ℕ
+ledgerRefusal buffer b f =
+    refusalGiven f (badUsed buffer (usedBy (b .lines)) || not (eqb (checkLines 0 0 (b .lines) .refusal) 0)) buffer
+    (usedBy (b .lines)) (b .lines)
 
--- "and the lines stay. If none does, .. its line, numbered as above, with the lumps of the grant, is added at the end"
-unfoldable pub ledgerAfter : ℕ → List (List ℕ) → List ℕ → List (List ℕ)
-ledgerAfter buffer ls c =
-    cond (eqb (ledgerRefusal buffer ls c) 0) (ls ++ (lineOf (nextNumber firstNumber ls) (quoteOf c) ∷ [])) ls
+-- "its line, numbered as above, with the lumps of the grant, is added at the end"
+abbrev pub entered : Ledger → Filing → Ledger
+entered b f =
+    record {
+      lines = b .lines ++ (lineFor (numberGiven (b .lines)) (f .line) ∷ []);
+      granted = b .granted ++ (f ∷ []);
+    }
+
+-- "and the lines stay. If none does, its refusal is 0, the case is granted"
+unfoldable pub ledgerAfter : ℕ → Ledger → Filing → Ledger
+ledgerAfter buffer b f = cond (eqb (ledgerRefusal buffer b f) 0) (entered b f) b
 
 -- "each filing has given the book's refusal, and a granted one, as the used length, the length of the book's lines right
 -- after it"
-unfoldable pub ledgerAnswer : ℕ → List (List ℕ) → List ℕ → Filed
-ledgerAnswer buffer ls c =
-    cond (eqb (ledgerRefusal buffer ls c) 0)
-    (record { refusal = 0; used = length (bytesOf (ledgerAfter buffer ls c)) })
-    (record { refusal = ledgerRefusal buffer ls c; used = 0 })
+unfoldable pub ledgerStep : ℕ → Ledger → Filing → Step Filed Ledger
+ledgerStep buffer b f =
+    record {
+      answer = filedAnswer (ledgerRefusal buffer b f) (usedBy (ledgerAfter buffer b f .lines));
+      state = ledgerAfter buffer b f;
+    }
 
--- over a list of filings: the answers, the lines at the end, and the cases that were granted, in order
-unfoldable pub ledgerAnswers : ℕ → List (List ℕ) → List (List ℕ) → List Filed
-ledgerAnswers buffer ls [] = []
-ledgerAnswers buffer ls (c ∷ cs) = ledgerAnswer buffer ls c ∷ ledgerAnswers buffer (ledgerAfter buffer ls c) cs
+-- the ledger of a list of filings into a buffer of a length
+abbrev pub ledgerRun : ℕ → List Filing → Step (List Filed) Ledger
+ledgerRun buffer fs = runs (ledgerStep buffer) emptyLedger fs
 
-unfoldable pub ledgerLines : ℕ → List (List ℕ) → List (List ℕ) → List (List ℕ)
-ledgerLines buffer ls [] = ls
-ledgerLines buffer ls (c ∷ cs) = ledgerLines buffer (ledgerAfter buffer ls c) cs
-
-unfoldable pub grantedCases : ℕ → List (List ℕ) → List (List ℕ) → List (List ℕ)
-grantedCases buffer ls [] = []
-grantedCases buffer ls (c ∷ cs) =
-    cond (eqb (ledgerRefusal buffer ls c) 0)
-    (c ∷ grantedCases buffer (ledgerAfter buffer ls c) cs)
-    (grantedCases buffer (ledgerAfter buffer ls c) cs)
-
--- what is claimed of a line with a number, for a granted case
-pub record LineClaim (number : ℕ) (c : List ℕ) (l : List ℕ) : Type 0 where
+-- what is claimed of a line with a number, for a granted filing
+pub record LineClaim (number : ℕ) (f : Filing) (l : List ℕ) : Type 0 where
   -- no refusal from the input applies to the case
-  pub accepted : refusalOf c ≡ 0
+  pub accepted : refusalOf (f .line) ≡ 0
   -- it is document 01's line of that number and that case
-  pub text : l ≡ lineOf number (quoteOf c)
+  pub text : l ≡ lineFor number (f .line)
   -- read back from its digits it gives that number, that member and those figures
-  pub read : figuresIn l ≡ figuresOf number (quoteOf c)
+  pub read : figuresIn l ≡ figuresFor number (f .line)
   -- its lumps keep the caps and the limits and no rival does better: see `BestLumps`
-  pub best : BestLumps c (lumpsInLine l) (totalIn l)
+  pub best : BestLumps (f .line) (lumpsInLine l) (totalIn l)
 
--- What is claimed of a list of filings cs in a register that starts empty, with the bytes s: the answers that the filings gave,
--- the buffer and the used length that they left.
-pub record ListClaim (s : List ℕ) (cs : List (List ℕ)) (answers : List Filed) (after : List ℕ) (used : ℕ) : Type 0 where
+-- What is claimed of a list of filings fs in a register that starts empty, with the bytes s: the answers that the filings gave and
+-- the register that they left.
+pub record ListClaim (s : List ℕ) (fs : List Filing) (ran : Step (List Filed) Register) : Type 0 where
   -- each filing gave the ledger's refusal, and a granted one the length of the ledger's lines right after it
-  pub answered : answers ≡ ledgerAnswers (length s) [] cs
+  pub answered : ran .answer ≡ ledgerRun (length s) fs .answer
   -- "The buffer begins with the book's lines, .. and all bytes past them are as at the start"
-  pub bytes : after ≡ bytesOf (ledgerLines (length s) [] cs) ++ drop (length (bytesOf (ledgerLines (length s) [] cs))) s
+  pub bytes : ran .state .bytes
+      ≡ bytesOf (ledgerRun (length s) fs .state .lines) ++ drop (usedBy (ledgerRun (length s) fs .state .lines)) s
   -- "the used length is theirs"
-  pub length-used : used ≡ length (bytesOf (ledgerLines (length s) [] cs))
-  -- as many lines as granted cases; counted from 0 here, line k has the first number plus k and is the granted case k's
-  pub count : length (ledgerLines (length s) [] cs) ≡ length (grantedCases (length s) [] cs)
-  pub lines : (k : ℕ) → k < length (grantedCases (length s) [] cs)
-      → LineClaim (firstNumber + k) (getD (grantedCases (length s) [] cs) k []) (getD (ledgerLines (length s) [] cs) k [])
+  pub length-used : ran .state .used ≡ usedBy (ledgerRun (length s) fs .state .lines)
+  -- as many lines as granted filings; counted from 0 here, line k has the first number plus k and is the granted filing k's
+  pub count : length (ledgerRun (length s) fs .state .lines) ≡ length (ledgerRun (length s) fs .state .granted)
+  pub lines : (k : ℕ) → k < length (ledgerRun (length s) fs .state .granted)
+      → LineClaim (firstNumber + k) (getD (ledgerRun (length s) fs .state .granted) k (filing []))
+      (getD (ledgerRun (length s) fs .state .lines) k [])

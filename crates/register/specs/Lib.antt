@@ -1,7 +1,9 @@
-pub mod Ledger
 pub mod Check
 pub mod File
 pub mod Find
+pub mod Layout
+pub mod Ledger
 pub mod Line
-pub mod Places
+pub mod Scan
+pub mod Steps
 pub mod Text

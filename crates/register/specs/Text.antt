@@ -1,13 +1,15 @@
 -- A text of case lines and the claim of demand 3 as the contract of the call that files them all. Assumes nothing.
 use Prim.Native.Nat.{ℕ}
 use mathlib.Core.Bool.{Bool, true, false, cond}
-use mathlib.Core.List.{List, [], _∷_, _++_}
+use mathlib.Core.List.{List, [], _∷_, _++_, map}
 use mathlib.Core.Path.{_≡_}
 use lib.Dec.{eqb}
 use lib.ListN.{length}
 use Rattle.register.specs.declared.answers.Filed.{Filed}
 use Rattle.register.specs.declared.answers.FiledLines.{FiledLines}
-use Rattle.register.specs.File.{answersOf, usedOf}
+use Rattle.register.specs.Layout.{Register, lent}
+use Rattle.register.specs.Steps.{Step}
+use Rattle.register.specs.File.{Filing, filing, fileRun}
 use Rattle.register.specs.Ledger.{ListClaim}
 
 abbrev pub isEmpty : List ℕ → Bool
@@ -23,18 +25,26 @@ linesWith before (c ∷ cs) = cond (eqb c 10) (before ∷ linesWith [] cs) (line
 unfoldable pub textLines : List ℕ → List (List ℕ)
 textLines text = linesWith [] text
 
+-- the filings of a text's lines
+abbrev pub textFilings : List ℕ → List Filing
+textFilings text = map filing (textLines text)
+
 -- the refusals of answers over the bytes that were there, as far as there is room
 unfoldable pub refusalBytes : List Filed → List ℕ → List ℕ
 refusalBytes [] old = old
 refusalBytes (a ∷ answers) [] = []
 refusalBytes (a ∷ answers) (o ∷ old) = a .refusal ∷ refusalBytes answers old
 
--- what filing lines one after the other answers, from any register and used length
-unfoldable pub filedLines : List ℕ → ℕ → List (List ℕ) → FiledLines
-filedLines s used cs = record { used = usedOf s used cs; lines = length cs }
+-- What filing the lines of a text in a register promises: the answer, the register's bytes and the refusals are those of
+-- filing the lines one after the other.
+pub record FiledText (r : Register) (text old after refusals : List ℕ) (answer : FiledLines) : Type 0 where
+  pub answered : answer ≡ record { used = fileRun r (textFilings text) .state .used; lines = length (textLines text) }
+  pub bytes : after ≡ fileRun r (textFilings text) .state .bytes
+  pub given : refusals ≡ refusalBytes (fileRun r (textFilings text) .answer) old
 
--- What filing every line of a text promises: the whole claim of demand 3 about the list of its lines, of the very bytes
--- and the used length that it leaves; and the refusals it gave.
+-- What filing every line of a text into an empty register promises: the whole claim of demand 3 about the list of its lines, of
+-- the very bytes and the used length that it leaves; and the refusals it gave.
 pub record FiledAll (s text old after refusals : List ℕ) (used : ℕ) : Type 0 where
-  pub claim : ListClaim s (textLines text) (answersOf s 0 (textLines text)) after used
-  pub given : refusals ≡ refusalBytes (answersOf s 0 (textLines text)) old
+  pub claim : ListClaim s (textFilings text)
+      (record { answer = fileRun (lent s 0) (textFilings text) .answer; state = lent after used })
+  pub given : refusals ≡ refusalBytes (fileRun (lent s 0) (textFilings text) .answer) old

@@ -1,20 +1,40 @@
 // The check of a register.
 use crate::answers::Checked;
+use crate::layout::FIGURE_WIDTH;
 use crate::layout::LINE_LENGTH;
-use crate::layout::MEMBER_AT;
 use crate::layout::TEXT_LENGTH;
 ghost use mathlib.Core.Path.{_≡_};
 ghost use mathlib.Core.Bool.{cond, not, _&&_};
-ghost use Prim.Native.Nat.{_/_, _%_, _≤_, _<_};
+ghost use Prim.Native.Nat.{_≤_, _%_};
 ghost use lib.Dec.{ltb, eqb};
 ghost use lib.ListN.{length, getD, take};
-ghost use Rattle.split.specs.Frame.{hexValue, badCharacter};
-ghost use Rattle.register.specs.Line.{lineLength, textLength};
-ghost use Rattle.register.specs.Check.{linesOf, wrongNumber, checkLines, badUsed, checkOf};
+ghost use Rattle.split.specs.Frame.{noDigit, badCharacter};
+ghost use Rattle.register.specs.Line.{textLength};
+ghost use Rattle.register.specs.Layout.{lent, lineLength, usedLines};
+ghost use Rattle.register.specs.Check.{wrongNumber, badUsed, checkLines, checkOf};
+ghost use Rattle.register.specs.Scan.{ScannedAs};
+
+// What going along a register finds: the check's refusal and offset, and where there is none the number that a next line
+// must have, 0 where there is no line.
+pub struct Scanned {
+    pub refusal: u8,
+    pub offset: usize,
+    pub next: u64,
+}
+
+fn unsound(offset: usize) -> Scanned
+    ensures { λ r. ⌜ r ≡ record { refusal = 11; offset = offset; next = 0 } ⌝ }
+{
+    Scanned {
+        refusal: 11,
+        offset,
+        next: 0,
+    }
+}
 
 // Whether a character may not stand at a place of a line.
 fn is_bad(character: u8, place: usize) -> bool
-    ensures { λ r. ⌜ r ≡ cond (ltb place textLength) (eqb (hexValue character) 16) (not (eqb character 10)) ⌝ }
+    ensures { λ r. ⌜ r ≡ cond (ltb place textLength) (noDigit character) (not (eqb character 10)) ⌝ }
 {
     if place < TEXT_LENGTH {
         return split::hex_value(character) == 16;
@@ -46,18 +66,19 @@ fn is_bad_used(buffer: usize, used: usize) -> bool
     (buffer < used) | !(used % LINE_LENGTH == 0)
 }
 
-// The fault of the first bad line of whole lines, or none. Only a bad line's characters are gone through one by one.
-fn check_lines(register: &[u8], used: usize) -> Checked
+// Goes along whole lines to the fault of the first bad one. Only a bad line's characters are gone through one by one.
+fn scan_lines(register: &[u8], used: usize) -> Scanned
     requires { ⌜ (used ≤ length (now register)) × (used % lineLength ≡ 0) ⌝ }
-    ensures { λ r. ⌜ r ≡ checkLines 0 0 (linesOf (used / lineLength) (now (register .entry))) ⌝ }
+    ensures { λ r. ⌜ ScannedAs (checkLines 0 0 (usedLines (lent (now (register .entry)) used))) (usedLines (lent (now (register .entry)) used)) r ⌝ }
 {
     let mut at = 0;
     let mut expected: u64 = 0;
     'lines: loop {
         if used <= at {
-            break 'lines Checked {
+            break 'lines Scanned {
                 refusal: 0,
                 offset: 0,
+                next: expected,
             };
         }
         let number = split::number_at(register, at);
@@ -65,17 +86,11 @@ fn check_lines(register: &[u8], used: usize) -> Checked
         let whole = has_layout(&register[at..at + LINE_LENGTH]);
         if wrong | !whole {
             for place in 0..LINE_LENGTH {
-                if (place == MEMBER_AT) & wrong {
-                    break 'lines Checked {
-                        refusal: 11,
-                        offset: at,
-                    };
+                if (place == FIGURE_WIDTH) & wrong {
+                    break 'lines unsound(at);
                 }
                 if is_bad(register[at + place], place) {
-                    break 'lines Checked {
-                        refusal: 11,
-                        offset: at + place,
-                    };
+                    break 'lines unsound(at + place);
                 }
             }
         }
@@ -84,15 +99,23 @@ fn check_lines(register: &[u8], used: usize) -> Checked
     }
 }
 
-// The check of the used part of a register: 11 and the offset of what is bad, or 0 and 0.
-pub fn check(register: &[u8], used: usize) -> Checked
-    ensures { λ r. ⌜ r ≡ checkOf (now (register .entry)) used ⌝ }
+// Goes along the used part of a register.
+pub fn scan(register: &[u8], used: usize) -> Scanned
+    ensures { λ r. ⌜ ScannedAs (checkOf (lent (now (register .entry)) used)) (usedLines (lent (now (register .entry)) used)) r ⌝ }
 {
     if is_bad_used(register.len(), used) {
-        return Checked {
-            refusal: 11,
-            offset: used,
-        };
+        return unsound(used);
     }
-    check_lines(register, used)
+    scan_lines(register, used)
+}
+
+// The check of the used part of a register: 11 and the offset of what is bad, or 0 and 0.
+pub fn check(register: &[u8], used: usize) -> Checked
+    ensures { λ r. ⌜ r ≡ checkOf (lent (now (register .entry)) used) ⌝ }
+{
+    let scanned = scan(register, used);
+    Checked {
+        refusal: scanned.refusal,
+        offset: scanned.offset,
+    }
 }

@@ -2,29 +2,27 @@
 use crate::answers::Filed;
 use crate::answers::FiledLines;
 use crate::checking;
+use crate::checking::Scanned;
 use crate::layout;
 use crate::layout::LINE_LENGTH;
+use crate::text;
 use split::answers::Quote;
 ghost use mathlib.Core.Path.{_≡_};
+ghost use mathlib.Core.Bool.{cond};
 ghost use mathlib.Core.List.{List};
-ghost use Prim.Native.Nat.{ℕ, _/_, _%_, _≤_, _<_};
+ghost use Prim.Native.Nat.{ℕ};
+ghost use lib.Dec.{eqb};
 ghost use lib.ListN.{length};
 ghost use Rattle.split.specs.Refusal.{refusalOf};
 ghost use Rattle.split.specs.Quote.{quoteOf};
-ghost use Rattle.register.specs.Line.{lineLength};
-ghost use Rattle.register.specs.Check.{linesOf};
-ghost use Rattle.register.specs.File.{nextNumber, firstNumber, fileAnswer, bytesAfter, answersOf, bufferOf};
-ghost use Rattle.register.specs.Text.{textLines, refusalBytes, filedLines, FiledAll};
-ghost use Rattle.register.specs.Places.{Known, hasNewline, LineEnd};
+ghost use Rattle.register.specs.Line.{shareCount};
+ghost use Rattle.register.specs.Layout.{lent};
+ghost use Rattle.register.specs.File.{filing, firstNumber, fileStep};
+ghost use Rattle.register.specs.Text.{FiledText, FiledAll};
+ghost use Rattle.register.specs.Scan.{Known};
 
-// How many characters of a text are looked at together in the search for a newline.
-const SPAN: usize = 16;
-
-// Whether a register is sound, and its next number if it is.
-struct Inspected {
-    pub sound: bool,
-    pub next: u64,
-}
+// The number of the first line of a register.
+const FIRST_NUMBER: u64 = 1;
 
 fn refused(refusal: u8) -> Filed
     ensures { λ r. ⌜ r ≡ record { refusal = refusal; used = 0 } ⌝ }
@@ -32,61 +30,43 @@ fn refused(refusal: u8) -> Filed
     Filed { refusal, used: 0 }
 }
 
-// The number after whole lines: 1 where there is none, else the last plus one.
-fn next_number(register: &[u8], used: usize) -> u64
-    requires { ⌜ (used ≤ length (now register)) × (used % lineLength ≡ 0) ⌝ }
-    ensures { λ r. ⌜ r ≡ nextNumber firstNumber (linesOf (used / lineLength) (now (register .entry))) ⌝ }
+// The number given to a line that must have the next number, where 0 stands for any.
+fn number_given(next: u64) -> u64
+    ensures { λ r. ⌜ r ≡ cond (eqb next 0) firstNumber next ⌝ }
 {
-    if used < LINE_LENGTH {
-        return 1;
+    if next == 0 {
+        return FIRST_NUMBER;
     }
-    let last = used - LINE_LENGTH;
-    split::number_at(register, last) as u64 + 1
+    next
 }
 
-// The check of a register, and its next number where it is sound.
-fn inspect(register: &[u8], used: usize) -> Inspected
-    ensures { λ r. ⌜ Known (now (register .entry)) used (r .sound) (r .next) ⌝ }
+// Files the quote of an accepted case in a register that was gone along.
+fn enter(register: &mut [u8], used: usize, known: Scanned, quote: Quote) -> Filed
+    requires { ⌜ Known (lent (now register) used) known × (length (quote .shares) ≡ shareCount) ⌝ }
+    ensures { λ r. ⌜ ((c : List ℕ) → refusalOf c ≡ 0 → quote ≡ quoteOf c → (r ≡ fileStep (lent (now (register .entry)) used) (filing c) .answer) × (now (register .exit) ≡ fileStep (lent (now (register .entry)) used) (filing c) .state .bytes)) ⌝ }
 {
-    let checked = checking::check(register, used);
-    if checked.refusal != 0 {
-        return Inspected {
-            sound: false,
-            next: 0,
-        };
-    }
-    Inspected {
-        sound: true,
-        next: next_number(register, used),
-    }
-}
-
-// Files the quote of an accepted case in a register of which it is known whether it is sound, and its next number.
-fn enter(register: &mut [u8], used: usize, known: Inspected, quote: Quote) -> Filed
-    requires { ⌜ Known (now register) used (known .sound) (known .next) × (length (quote .shares) ≡ 4) ⌝ }
-    ensures { λ r. ⌜ ((c : List ℕ) → refusalOf c ≡ 0 → quote ≡ quoteOf c → (r ≡ fileAnswer (now (register .entry)) used c) × (now (register .exit) ≡ bytesAfter (now (register .entry)) used c)) ⌝ }
-{
-    if !known.sound {
+    if known.refusal != 0 {
         return refused(11);
     }
     if register.len() - used < LINE_LENGTH {
         return refused(12);
     }
-    if known.next == 4294967296 {
+    if 4294967296 <= known.next {
         return refused(13);
     }
     let end = used + LINE_LENGTH;
-    layout::write_line(&mut register[used..end], known.next as u32, quote);
+    let number = number_given(known.next) as u32;
+    layout::write_line(&mut register[used..end], number, quote);
     Filed {
         refusal: 0,
         used: end,
     }
 }
 
-// Files a case in a register of which it is known whether it is sound, and its next number.
-fn file_known(register: &mut [u8], used: usize, known: Inspected, line: &[u8]) -> Filed
-    requires { ⌜ Known (now register) used (known .sound) (known .next) ⌝ }
-    ensures { λ r. ⌜ (r ≡ fileAnswer (now (register .entry)) used (now (line .entry))) × (now (register .exit) ≡ bytesAfter (now (register .entry)) used (now (line .entry))) ⌝ }
+// Files a case in a register that was gone along.
+fn file_known(register: &mut [u8], used: usize, known: Scanned, line: &[u8]) -> Filed
+    requires { ⌜ Known (lent (now register) used) known ⌝ }
+    ensures { λ r. ⌜ (r ≡ fileStep (lent (now (register .entry)) used) (filing (now (line .entry))) .answer) × (now (register .exit) ≡ fileStep (lent (now (register .entry)) used) (filing (now (line .entry))) .state .bytes) ⌝ }
 {
     let quote = split::quote(line);
     if quote.refusal != 0 {
@@ -98,78 +78,34 @@ fn file_known(register: &mut [u8], used: usize, known: Inspected, line: &[u8]) -
 // Files a case: refusals 1 to 13, the lowest, with used length 0; or the used length past the new line. The register is
 // checked for an accepted case only.
 pub fn file(register: &mut [u8], used: usize, line: &[u8]) -> Filed
-    ensures { λ r. ⌜ (r ≡ fileAnswer (now (register .entry)) used (now (line .entry))) × (now (register .exit) ≡ bytesAfter (now (register .entry)) used (now (line .entry))) ⌝ }
+    ensures { λ r. ⌜ (r ≡ fileStep (lent (now (register .entry)) used) (filing (now (line .entry))) .answer) × (now (register .exit) ≡ fileStep (lent (now (register .entry)) used) (filing (now (line .entry))) .state .bytes) ⌝ }
 {
     let quote = split::quote(line);
     if quote.refusal != 0 {
         return refused(quote.refusal);
     }
-    let known = inspect(register, used);
+    let known = checking::scan(register, used);
     enter(register, used, known, quote)
-}
-
-// Whether a part of a text has a newline. It looks at all characters, with no branch for each.
-fn has_newline(part: &[u8]) -> bool
-    ensures { λ r. ⌜ r ≡ hasNewline (now (part .entry)) ⌝ }
-{
-    let mut found = false;
-    let mut i = 0;
-    while i < part.len() {
-        found = found | (part[i] == b'\n');
-        i += 1;
-    }
-    found
-}
-
-// The first newline from a place of a text on, or the text's end.
-fn newline_from(text: &[u8], at: usize) -> usize
-    requires { ⌜ at ≤ length (now text) ⌝ }
-    ensures { λ r. ⌜ LineEnd (now (text .entry)) at r ⌝ }
-{
-    let mut end = at;
-    while end < text.len() {
-        if text[end] == b'\n' {
-            return end;
-        }
-        end += 1;
-    }
-    end
-}
-
-// The end of the line that begins at a place of a text: its newline, or the text's end. Spans without a newline are
-// passed whole.
-fn line_end(text: &[u8], at: usize) -> usize
-    requires { ⌜ at < length (now text) ⌝ }
-    ensures { λ r. ⌜ LineEnd (now (text .entry)) at r ⌝ }
-{
-    let mut end = at;
-    while SPAN <= text.len() - end {
-        if has_newline(&text[end..end + SPAN]) {
-            return newline_from(text, end);
-        }
-        end += SPAN;
-    }
-    newline_from(text, end)
 }
 
 // Files the lines of a text one after the other, with one check of the register: the used length from then on and how
 // many lines there were, and a refusal for each line as far as there is room.
 pub fn file_lines(register: &mut [u8], used: usize, lines: &[u8], refusals: &mut [u8]) -> FiledLines
-    ensures { λ r. ⌜ (r ≡ filedLines (now (register .entry)) used (textLines (now (lines .entry)))) × (now (register .exit) ≡ bufferOf (now (register .entry)) used (textLines (now (lines .entry)))) × (now (refusals .exit) ≡ refusalBytes (answersOf (now (register .entry)) used (textLines (now (lines .entry)))) (now (refusals .entry))) ⌝ }
+    ensures { λ r. ⌜ FiledText (lent (now (register .entry)) used) (now (lines .entry)) (now (refusals .entry)) (now (register .exit)) (now (refusals .exit)) r ⌝ }
 {
-    let mut known = inspect(register, used);
+    let mut known = checking::scan(register, used);
     let mut filled = used;
     let mut count = 0;
     let mut at = 0;
     while at < lines.len() {
-        let end = line_end(lines, at);
+        let end = text::line_end(lines, at);
         let filed = file_known(register, filled, known, &lines[at..end]);
         if count < refusals.len() {
             refusals[count] = filed.refusal;
         }
         if filed.refusal == 0 {
             filled = filed.used;
-            known.next += 1;
+            known.next = number_given(known.next) + 1;
         }
         count += 1;
         at = end + 1;

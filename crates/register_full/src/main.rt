@@ -57,13 +57,15 @@ fn checked(register: &[u8], used: usize) {
 
 fn found_number(register: &[u8], used: usize, quote: u32) {
     text(register::find_number(register, used, quote));
-    number(register::find_number_refusal(register, used, quote) as u64);
+    let found = register::locate_number(register, used, quote);
+    number(found.refusal as u64);
     text(b"\n");
 }
 
 fn found_member(register: &[u8], used: usize, member: u32) {
     text(register::find_member(register, used, member));
-    number(register::find_member_refusal(register, used, member) as u64);
+    let found = register::locate_member(register, used, member);
+    number(found.refusal as u64);
     text(b"\n");
 }
 

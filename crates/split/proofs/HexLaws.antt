@@ -7,11 +7,35 @@ use mathlib.Core.Path.{_≡_, refl, _∙_}
 use native.Mathlib.Decide.{decLt}
 use native.Mathlib.Nat.{add-assoc, pow-suc}
 use native.Mathlib.Omega.{arith}
+use lib.Dec.{eqb}
 use lib.ListN.{length, take, drop, length-append}
 use lib.Seq.{getD-append-add, getD-at, getD-take, getD-drop}
 use borrow.Author.Tests.{lt-ltb, le-ltb, le-leb, lt-leb, ne-eqb}
 use Rattle.calendar.proofs.TestLaws.{any-append, any-snoc}
 use Rattle.split.specs.Frame.{hexValue, noDigit, badCharacter, digitAt, numberAt, hexCharacter, hexText}
+
+-- what is no digit, by its value
+pub no-digit : (c : ℕ) → noDigit c ≡ eqb (hexValue c) 16
+unfolding noDigit
+no-digit c = refl
+
+-- a digit's character, below ten and from ten on
+pub hex-low : (d : ℕ) → d < 10 → hexCharacter d ≡ 48 + d
+unfolding hexCharacter
+hex-low d h = simp (lt-ltb d 10 h)
+
+pub hex-high : (d : ℕ) → 10 ≤ d → hexCharacter d ≡ 55 + d
+unfolding hexCharacter
+hex-high d h = simp (le-ltb d 10 h)
+
+-- no digit written, and one more at the end
+pub hex-none : (x : ℕ) → hexText 0 x ≡ []
+unfolding hexText
+hex-none x = refl
+
+pub hex-more : (n x : ℕ) → hexText (suc n) x ≡ hexText n (x / 16) ++ (hexCharacter (x % 16) ∷ [])
+unfolding hexText
+hex-more n x = refl
 
 -- a digit's character has the digit's value
 hex-digit : (d : ℕ) → d < 16 → hexValue (hexCharacter d) ≡ d

@@ -5,7 +5,7 @@ use Rattle.pension.proofs.pension_find_member.Statement.{statement}
 use Rattle.pension.proofs.pension_find_member.Tie as tie
 
 returns : tie.Need-returns
-returns c = found-bytes _ _ _ _ _ (c .before .locate-member .ensures) (c .found-for-c .ensures)
+returns c = found-bytes _ _ _ _ (c .before .locate-member .ensures) (c .found-for-c .ensures)
 
 pub pension-find-member-spec : {M : Type 1} → statement M
 pension-find-member-spec = tie.close (tie.spec (search needs) (search needs) returns)

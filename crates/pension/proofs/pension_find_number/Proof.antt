@@ -5,7 +5,7 @@ use Rattle.pension.proofs.pension_find_number.Statement.{statement}
 use Rattle.pension.proofs.pension_find_number.Tie as tie
 
 returns : tie.Need-returns
-returns c = found-bytes _ _ _ _ _ (c .before .locate-number .ensures) (c .found-for-c .ensures)
+returns c = found-bytes _ _ _ _ (c .before .locate-number .ensures) (c .found-for-c .ensures)
 
 pub pension-find-number-spec : {M : Type 1} → statement M
 pension-find-number-spec = tie.close (tie.spec (search needs) (search needs) returns)

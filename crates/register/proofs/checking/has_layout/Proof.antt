@@ -5,21 +5,22 @@ use native.Mathlib.Omega.{arith}
 use lib.Dec.{eqb}
 use lib.ListN.{getD}
 use borrow.Author.Needs.{needs}
-use Rattle.register.specs.Line.{fieldWidths, textLength}
-use Rattle.register.proofs.CheckingLaws.{line-length-is}
+use Rattle.register.specs.Line.{textLength}
 use Rattle.register.proofs.checking.has_layout.Statement.{statement}
 use Rattle.register.proofs.checking.has_layout.Tie as tie
 
 part-has-bad-character-end : tie.Need-part-has-bad-character-end
-part-has-bad-character-end c = omega (arith, line-length-is)
+unfolding textLength
+part-has-bad-character-end c = omega arith
 
 shared-slice-read-result : tie.Need-shared-slice-read-result
-shared-slice-read-result c = omega (arith, line-length-is)
+unfolding textLength
+shared-slice-read-result c = omega arith
 
 returns : tie.Need-returns
-unfolding textLength fieldWidths
+unfolding textLength
 returns c =
-    ap (λ (b : Bool). not b && eqb (getD (c .before .before .before .before .args .line .now) 120 0) 10)
+    ap (λ (b : Bool). not b && eqb (getD (c .before .before .before .before .args .line .now) textLength 0) 10)
     (c .before .has-bad-character .ensures)
 
 pub has-layout-spec : {M : Type 1} → statement M

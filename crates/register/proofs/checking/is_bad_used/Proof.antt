@@ -1,12 +1,12 @@
 -- `is_bad_used` is the definition `badUsed`, as it stands.
 use mathlib.Core.Path.{refl}
-use Rattle.register.specs.Line.{fieldWidths, textLength, lineLength}
-use Rattle.register.specs.Check.{badUsed}
+use Rattle.register.specs.Line.{textLength}
+use Rattle.register.specs.Check.{badUsedBy}
 use Rattle.register.proofs.checking.is_bad_used.Statement.{statement}
 use Rattle.register.proofs.checking.is_bad_used.Tie as tie
 
 returns : tie.Need-returns
-unfolding badUsed lineLength textLength fieldWidths
+unfolding badUsedBy textLength
 returns c = refl
 
 pub is-bad-used-spec : {M : Type 1} → statement M

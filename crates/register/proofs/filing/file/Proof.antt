@@ -1,17 +1,18 @@
--- `file` is the definitions `fileAnswer` and `bytesAfter`: by the case's refusal, else by what `enter` ensures.
+-- `file` is the definition `fileStep`: by the case's refusal, else by what `enter` ensures of the register that was gone along.
 use mathlib.Core.Path.{sym, _∙_}
 use borrow.Author.Needs.{needs}
-use Rattle.register.proofs.FilingLaws.{quote-says, case-refused, quote-whole}
+use Rattle.register.proofs.FileLoop.{quote-says, quote-whole, scan-known, case-refused}
 use Rattle.register.proofs.filing.file.Statement.{statement}
 use Rattle.register.proofs.filing.file.Tie as tie
 
 returns : tie.Need-returns
 returns c =
-    let p = case-refused _ _ _ _ (quote-says _ _ (c .before .before .before .quote .ensures)) (c .before .if1 .taken) in
+    let p = case-refused _ _ _ (quote-says _ _ (c .before .before .before .quote .ensures)) (c .before .if1 .taken) in
     (c .refused .ensures ∙ p .0, p .1)
 
 enter-requires : tie.Need-enter-requires
-enter-requires c κs = (c .before .inspect .ensures, quote-whole _ _ (c .before .before .before .before .before .quote .ensures))
+enter-requires c κs =
+    (scan-known (c .before .scan .ensures), quote-whole _ _ (c .before .before .before .before .before .quote .ensures))
 
 returns-2 : tie.Need-returns-2
 returns-2 c =

@@ -1,6 +1,6 @@
 -- `file_all` keeps the list claim: it is what `file_lines` ensures, from used length 0.
 use borrow.Author.Needs.{needs}
-use Rattle.register.proofs.FilingLaws.{filed-all}
+use Rattle.register.proofs.FileLoop.{filed-all}
 use Rattle.register.proofs.filing.file_all.Statement.{statement}
 use Rattle.register.proofs.filing.file_all.Tie as tie
 

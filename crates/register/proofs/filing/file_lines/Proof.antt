@@ -1,26 +1,29 @@
 -- `file_lines` keeps that the lines passed have been filed (`Passed`), so that at the text's end all are.
-use Prim.Native.Nat.{_≤_, _-_, _+_}
-use mathlib.Core.Path.{_≡_, refl, ap}
+use Prim.Native.Nat.{ℕ, _≤_, _-_, _+_}
+use mathlib.Core.Path.{_≡_, refl, _∙_, ap}
 use mathlib.Core.Logic.{⊎-elim}
 use native.Mathlib.Omega.{arith}
 use lib.ListN.{length}
 use borrow.Author.Needs.{needs}
 use Rattle.register.specs.declared.answers.Filed.{Filed}
-use Rattle.register.specs.declared.filing.Inspected.{Inspected}
-use Rattle.register.proofs.FilingLaws.{Passed, passed-none, passed-size, passed-all, passed-next, refusals-next, refusals-past, granted-low, granted-next, refused-next}
+use Rattle.register.specs.declared.checking.Scanned.{Scanned}
+use Rattle.register.specs.Layout.{lent}
+use Rattle.register.proofs.TextLaws.{refusals-next, refusals-past}
+use Rattle.register.proofs.FileLaws.{number-fits}
+use Rattle.register.proofs.FileLoop.{scan-known, granted-low, granted-next, refused-next, Passed, passed-none, passed-size, passed-all, passed-next}
 use Rattle.register.proofs.filing.file_lines.Statement.{statement}
 use Rattle.register.proofs.filing.file_lines.Tie as tie
 
 abbrev Inv-loop : tie.InvT-loop
 Inv-loop register₀ used lines refusals₀ known₀ filled₀ count₀ at₀ register refusals known filled count at =
     (at ≤ length lines + 1) × (count ≤ at) × (length register ≡ length register₀)
-    × Passed register₀ used lines refusals₀ register refusals (known .sound) (known .next) filled count at
+    × Passed (lent register₀ used) lines refusals₀ register refusals known filled count at
 
 abbrev μ-loop : tie.MeasureT-loop
 μ-loop register₀ used lines refusals₀ known₀ filled₀ count₀ at₀ register refusals known filled count at = length lines - at
 
 loop-holds : tie.Need-loop-holds Inv-loop μ-loop
-loop-holds c = (omega arith, omega arith, refl, passed-none _ _ _ _ _ _ (c .inspect .ensures))
+loop-holds c = (omega arith, omega arith, refl, passed-none _ _ _ _ (scan-known (c .scan .ensures)))
 
 file-known-requires : tie.Need-file-known-requires Inv-loop μ-loop
 file-known-requires c κs = c .before .before .before .before .loop .inv .3 .known
@@ -29,7 +32,8 @@ add-known : tie.Need-add-known Inv-loop μ-loop
 add-known c =
     let l = c .before .before .before .before .before .before .before .before .before .before .before .loop in
     let filed = c .before .before .before .before .before .before .file-known in
-    omega (arith, granted-low _ _ _ _ _ (l .inv .3 .known) (filed .result) (filed .ensures .0) (c .before .if2 .taken))
+    let low = granted-low _ _ _ (l .inv .3 .known) (filed .result) (filed .ensures .0) (c .before .if2 .taken) in
+    omega (arith, c .number-given .ensures, number-fits (l .known .next) 4294967297 (omega arith) (omega arith))
 
 loop-again : tie.Need-loop-again Inv-loop μ-loop
 loop-again c =
@@ -40,20 +44,19 @@ loop-again c =
       search needs,
       omega (arith, cut .ensures .after),
       search needs,
-      passed-next p (cut .result) (c .before .before .before .before .before .before .before .before .before .loop-test .taken) (cut .ensures) _ _ _ _ _ _ (filed .ensures .1)
+      passed-next p (cut .result) (c .before .before .before .before .before .before .before .before .before .loop-test .taken) (cut .ensures) _ _ _ _ _ (filed .ensures .1)
           (⊎-elim
           (λ w.
-          granted-next _ _ _ _ _ (p .known) (filed .result) (filed .ensures .0) _ _ _ (w .0 .taken) (w .3)
-          (ap (λ (k : Inspected). k .next) (w .2)) (ap (λ (k : Inspected). k .sound) (w .2)))
-          (λ w.
-          refused-next _ _ _ _ _ (p .known) (filed .result) (filed .ensures .0) _ _ _ (w .0 .left) (w .2)
-          (ap (λ (k : Inspected). k .next) (w .1)) (ap (λ (k : Inspected). k .sound) (w .1)))
+          granted-next _ _ _ (p .known) (filed .result) (filed .ensures .0) _ _ (w .0 .taken) (w .3)
+          (ap (λ (k : Scanned). k .refusal) (w .2))
+          (ap (λ (k : Scanned). k .next) (w .2) ∙ ap (λ (n : ℕ). n + 1) (w .1 .ensures)))
+          (λ w. refused-next _ _ _ (p .known) (filed .result) (filed .ensures .0) _ _ (w .0 .left) (w .2) (w .1))
           (c .if2 .came))
           (⊎-elim
           (λ w.
-          refusals-next _ _ _ (p .refusals) _ _ _ _ (p .count) (ap (λ (a : Filed). a .refusal) (filed .ensures .0)) (w .0 .taken)
+          refusals-next _ _ _ (p .given) _ _ _ _ (p .count) (ap (λ (a : Filed). a .refusal) (filed .ensures .0)) (w .0 .taken)
           (w .1))
-          (λ w. refusals-past _ _ _ (p .refusals) _ _ _ (p .count) (w .0 .left) (w .1))
+          (λ w. refusals-past _ _ _ (p .given) _ _ _ (p .count) (w .0 .left) (w .1))
           (c .before .before .if1 .came))
           refl,
     )
@@ -68,5 +71,5 @@ pub file-lines-spec : {M : Type 1} → statement M
 file-lines-spec =
     tie.close
     (tie.spec Inv-loop μ-loop (search needs) loop-holds (search needs) (search needs) (search needs) (search needs)
-    file-known-requires (search needs) add-known (search needs) (search needs) (search needs) loop-again
+    file-known-requires (search needs) (search needs) add-known (search needs) (search needs) (search needs) loop-again
     (search needs) same-length-2 returns)

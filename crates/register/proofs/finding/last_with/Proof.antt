@@ -2,43 +2,46 @@
 use mathlib.Core.Path.{refl, sym, _∙_}
 use native.Mathlib.Omega.{arith}
 use borrow.Author.Needs.{needs}
-use Rattle.register.specs.Line.{fieldWidths, textLength, lineLength}
-use Rattle.register.specs.Places.{hasField}
-use Rattle.register.proofs.FindingLaws.{Same, field-hit, field-miss, same-none}
+use Rattle.register.specs.Line.{textLength}
+use Rattle.register.specs.Layout.{lineLayout}
+use Rattle.register.specs.Scan.{hasFigure}
+use Rattle.register.proofs.FindLoop.{Same, same-none, figure-hit, figure-miss}
 use Rattle.register.proofs.finding.last_with.Statement.{statement}
 use Rattle.register.proofs.finding.last_with.Tie as tie
 
 abbrev Inv-loop : tie.InvT-loop
-Inv-loop register n offset value i₀ i = Same (hasField offset value) register n i
+Inv-loop register n offset value i₀ i = Same lineLayout (hasFigure offset value) register n i
 
 abbrev μ-loop : tie.MeasureT-loop
 μ-loop register n offset value i₀ i = i
 
 loop-holds : tie.Need-loop-holds Inv-loop μ-loop
-loop-holds c = record { within = omega arith; place = refl; line = refl; some = refl }
+loop-holds c = record { within = omega arith; place = refl; some = refl }
 
 mul-number-at : tie.Need-mul-number-at Inv-loop μ-loop
-unfolding lineLength textLength fieldWidths
+unfolding textLength
 mul-number-at c = omega arith
 
 add-number-at : tie.Need-add-number-at Inv-loop μ-loop
-unfolding lineLength textLength fieldWidths
+unfolding textLength
 add-number-at c = omega arith
 
 returns : tie.Need-returns Inv-loop μ-loop
+unfolding textLength
 returns c =
     let l = c .before .before .before .loop in
-    field-hit _ _ (l .i) _ _ (l .inv) (c .before .before .loop-test .taken) (c .before .before .before .before .before .pre .1)
+    figure-hit lineLayout _ _ (l .i) _ _ (c .before .before .before .before .before .pre .1) (l .inv) (c .before .before .loop-test .taken)
     (sym (c .before .number-at .ensures) ∙ c .if1 .taken)
 
 loop-again : tie.Need-loop-again Inv-loop μ-loop
+unfolding textLength
 loop-again c =
     let l = c .before .before .before .loop in
-    field-miss _ _ (l .i) _ _ (l .inv) (c .before .before .loop-test .taken) (c .before .before .before .before .before .pre .1)
+    figure-miss lineLayout _ _ (l .i) _ _ (c .before .before .before .before .before .pre .1) (l .inv) (c .before .before .loop-test .taken)
     (λ e. c .if1 .left (c .before .number-at .ensures ∙ e))
 
 returns-2 : tie.Need-returns-2 Inv-loop μ-loop
-returns-2 c = same-none _ _ _ (c .before .loop .i) (c .before .loop .inv) (c .loop-test .left)
+returns-2 c = same-none lineLayout _ _ _ (c .before .loop .i) (c .before .loop .inv) (c .loop-test .left)
 
 pub last-with-spec : {M : Type 1} → statement M
 last-with-spec =

@@ -1,16 +1,16 @@
--- `locate_member` locates the line by the member's field, which is what `memberIn` reads.
+-- `locate_member` locates the line by the member's figure, which is what `memberIn` reads.
 use native.Mathlib.Omega.{arith}
-use Rattle.register.specs.Line.{fieldWidths, figuresIn, memberIn}
-use Rattle.register.specs.Places.{hasField}
-use Rattle.register.proofs.CheckingLaws.{line-length-is}
+use Rattle.register.specs.Line.{textLength, memberIn}
+use Rattle.register.specs.Scan.{hasFigure}
 use Rattle.register.proofs.finding.locate_member.Statement.{statement}
 use Rattle.register.proofs.finding.locate_member.Tie as tie
 
 located-requires : tie.Need-located-requires
-located-requires c κs = omega (arith, line-length-is)
+unfolding textLength
+located-requires c κs = omega arith
 
 returns : tie.Need-returns
-unfolding hasField memberIn figuresIn fieldWidths
+unfolding hasFigure memberIn
 returns c = c .located .ensures
 
 pub locate-member-spec : {M : Type 1} → statement M

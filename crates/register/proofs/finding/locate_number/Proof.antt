@@ -1,16 +1,16 @@
--- `locate_number` locates the line by the number's field, which is what `numberIn` reads.
+-- `locate_number` locates the line by the number's figure, which is what `numberIn` reads.
 use native.Mathlib.Omega.{arith}
-use Rattle.register.specs.Line.{fieldWidths, figuresIn, numberIn}
-use Rattle.register.specs.Places.{hasField}
-use Rattle.register.proofs.CheckingLaws.{line-length-is}
+use Rattle.register.specs.Line.{textLength, numberIn}
+use Rattle.register.specs.Scan.{hasFigure}
 use Rattle.register.proofs.finding.locate_number.Statement.{statement}
 use Rattle.register.proofs.finding.locate_number.Tie as tie
 
 located-requires : tie.Need-located-requires
-located-requires c κs = omega (arith, line-length-is)
+unfolding textLength
+located-requires c κs = omega arith
 
 returns : tie.Need-returns
-unfolding hasField numberIn figuresIn fieldWidths
+unfolding hasFigure numberIn
 returns c = c .located .ensures
 
 pub locate-number-spec : {M : Type 1} → statement M

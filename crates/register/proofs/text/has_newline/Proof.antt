@@ -7,9 +7,9 @@ use lib.ListN.{length, drop}
 use borrow.Author.Needs.{needs}
 use Rattle.calendar.specs.Tests.{any}
 use Rattle.calendar.proofs.TestLaws.{flag-more, flag-all}
-use Rattle.register.specs.Places.{hasNewline}
-use Rattle.register.proofs.filing.has_newline.Statement.{statement}
-use Rattle.register.proofs.filing.has_newline.Tie as tie
+use Rattle.register.specs.Scan.{hasNewline}
+use Rattle.register.proofs.text.has_newline.Statement.{statement}
+use Rattle.register.proofs.text.has_newline.Tie as tie
 
 abbrev isNewline : ℕ → Bool
 isNewline x = eqb x 10

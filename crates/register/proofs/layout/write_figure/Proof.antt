@@ -1,4 +1,4 @@
--- `write_field` writes the digits of `hexText`, the last first: the digits left to write give what all give from the start.
+-- `write_figure` writes the digits of `hexText`, the last first: the digits left to write give what all give from the start.
 use Prim.Native.Nat.{_≤_}
 use mathlib.Core.Path.{_≡_, refl}
 use native.Mathlib.Omega.{arith}
@@ -6,9 +6,9 @@ use lib.ListN.{length, length-set}
 use lib.Seq.{sets}
 use borrow.Author.Needs.{needs}
 use Rattle.split.specs.Frame.{hexText}
-use Rattle.register.proofs.WritingLaws.{field-next, field-end}
-use Rattle.register.proofs.layout.write_field.Statement.{statement}
-use Rattle.register.proofs.layout.write_field.Tie as tie
+use Rattle.register.proofs.LineLoop.{digit-next, digits-end}
+use Rattle.register.proofs.layout.write_figure.Statement.{statement}
+use Rattle.register.proofs.layout.write_figure.Tie as tie
 
 abbrev Inv-loop : tie.InvT-loop
 Inv-loop line₀ at value left₀ i₀ line left i = (i ≤ 8) × (length line ≡ length line₀) × (sets line at (hexText i left) ≡ sets line₀ at (hexText 8 value))
@@ -24,14 +24,14 @@ loop-again c =
     let l = c .before .before .loop in (
       omega arith,
       simp length-set (l .inv .1),
-      field-next (l .line) _ _ (l .i) _ (l .left) _ (omega arith) (l .inv .2) (c .hex-character .ensures),
+      digit-next (l .line) _ _ (l .i) _ (l .left) _ (omega arith) (l .inv .2) (c .hex-character .ensures),
     )
 
 returns : tie.Need-returns Inv-loop μ-loop
-returns c = field-end _ _ _ _ _ (c .loop-test .left) (c .before .loop .inv .2)
+returns c = digits-end _ _ _ _ _ (c .loop-test .left) (c .before .loop .inv .2)
 
-pub write-field-spec : {M : Type 1} → statement M
-write-field-spec =
+pub write-figure-spec : {M : Type 1} → statement M
+write-figure-spec =
     tie.close
     (tie.spec Inv-loop μ-loop loop-holds (search needs) (search needs) (search needs) (search needs) (search needs)
     loop-again (search needs) returns)

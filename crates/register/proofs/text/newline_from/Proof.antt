@@ -6,12 +6,12 @@ use native.Mathlib.Omega.{arith}
 use lib.Dec.{eqb}
 use lib.ListN.{length, getD}
 use borrow.Author.Needs.{needs}
-use Rattle.register.proofs.FilingLaws.{unbroken-more}
-use Rattle.register.proofs.filing.newline_from.Statement.{statement}
-use Rattle.register.proofs.filing.newline_from.Tie as tie
+use Rattle.register.proofs.TextLoop.{Unbroken, unbroken-more}
+use Rattle.register.proofs.text.newline_from.Statement.{statement}
+use Rattle.register.proofs.text.newline_from.Tie as tie
 
 abbrev Inv-loop : tie.InvT-loop
-Inv-loop text at end₀ end = (at ≤ end) × (end ≤ length text) × ((j : ℕ) → at ≤ j → j < end → eqb (getD text j 0) 10 ≡ false)
+Inv-loop text at end₀ end = (at ≤ end) × (end ≤ length text) × Unbroken text at end
 
 abbrev μ-loop : tie.MeasureT-loop
 μ-loop text at end₀ end = length text - end

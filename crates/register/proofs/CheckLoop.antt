@@ -1,0 +1,178 @@
+-- The check by loops, for any layout: a line is a part of the register and is read there; the lines from an offset on answer for
+-- all; and a turn stops at a wrong number or a bad character, or goes on behind a line without a fault. Assumes nothing.
+use Prim.Native.Nat.{ℕ, zero, suc, _+_, _-_, _*_, _/_, _%_, _≤_, _<_}
+use mathlib.Core.Bool.{Bool, true, false, cond, not, _&&_, _||_}
+use mathlib.Core.List.{List, [], _∷_}
+use mathlib.Core.Path.{_≡_, refl, sym, _∙_, ap}
+use native.Mathlib.Decide.{decLt}
+use native.Mathlib.Nat.{add-zero, suc-mul, zero-mul, div-add-mod'}
+use native.Mathlib.Omega.{arith}
+use lib.Dec.{ltb, eqb}
+use lib.ListN.{length, getD, take, drop, length-take, length-drop}
+use lib.Seq.{getD-take, getD-drop, drop-drop}
+use borrow.Author.Count.{below-more}
+use borrow.Author.Tests.{lt-ltb, le-ltb, eqb-true, eq-eqb, not-true}
+use Rattle.calendar.proofs.TestLaws.{and-left, and-right}
+use Rattle.split.specs.Frame.{noDigit, badCharacter, numberAt}
+use Rattle.split.proofs.FrameLaws.{digit-known}
+use Rattle.split.proofs.HexLaws.{number-part}
+use Rattle.register.specs.declared.answers.Checked.{Checked}
+use Rattle.register.specs.declared.checking.Scanned.{Scanned}
+use Rattle.register.specs.Line.{figureWidth, numberPlace, numberIn}
+use Rattle.register.specs.Layout.{Layout, lent, lengthOf, cutLines, usedLinesBy}
+use Rattle.register.specs.Check.{numberAfter, wrongNumber, sound, unsound, badAt, lineFault, checkLinesBy}
+use Rattle.register.specs.Scan.{ScannedAs}
+use Rattle.register.proofs.LayoutLaws.{lineAt}
+use Rattle.register.proofs.CheckLaws.{Good, fault-number, fault-character, fault-late}
+
+-- a character that may not stand at a place of a line
+abbrev pub badCharacterAt : Layout → ℕ → ℕ → Bool
+badCharacterAt y place x = cond (ltb place (y .text)) (noDigit x) (not (eqb x 10))
+
+-- the number's turn at a place: past it the number is right
+pub right-next : (place : ℕ) (wrong : Bool) → (eqb place figureWidth && wrong) ≡ false → (figureWidth < place → wrong ≡ false)
+    → figureWidth ≤ place → wrong ≡ false
+right-next place wrong passed right h =
+    elim (decLt figureWidth place) [
+      | yes past ↦ right past
+      | no here ↦ simp (eq-eqb place figureWidth (omega arith)) at passed
+    ]
+
+module _ (y : Layout) (wide : figureWidth ≤ y .text) (s : List ℕ) where
+  -- the number and the characters of the line at an offset, read in the register
+  pub line-number : (at : ℕ) → numberIn (lineAt y s at) ≡ numberAt s at figureWidth
+  unfolding numberIn
+  line-number at =
+      number-part s (lengthOf y) at numberPlace figureWidth (omega arith)
+      ∙ ap (λ (n : ℕ). numberAt s n figureWidth) (add-zero at)
+
+  line-character : (at place : ℕ) → place < lengthOf y → badAt y (lineAt y s at) place ≡ badCharacterAt y place (getD s (at + place) 0)
+  unfolding badAt
+  line-character at place h = simp (getD-take (lengthOf y) (drop at s) place 0 h, getD-drop)
+
+  -- one more good character
+  pub good-more : (at place : ℕ) → place < lengthOf y → Good y (lineAt y s at) place
+      → badCharacterAt y place (getD s (at + place) 0) ≡ false → Good y (lineAt y s at) (place + 1)
+  good-more at place h good b = below-more _ place good (line-character at place h ∙ b)
+
+  -- all are good by the test of a whole line
+  pub good-whole : (at : ℕ) (whole : Bool) → at + lengthOf y ≤ length s
+      → whole ≡ (not (badCharacter (take (y .text) (take (at + lengthOf y - at) (drop at s)))) && eqb (getD (take (at + lengthOf y - at) (drop at s)) (y .text) 0) 10)
+      → whole ≡ true → Good y (lineAt y s at) (lengthOf y)
+  good-whole at whole inside laid holds place h =
+      let part = take (at + lengthOf y - at) (drop at s) in
+      let both = sym laid ∙ holds in
+      let digits = not-true (badCharacter (take (y .text) part)) (and-left (not (badCharacter (take (y .text) part))) _ both) in
+      let ended = and-right (not (badCharacter (take (y .text) part))) (eqb (getD part (y .text) 0) 10) both in
+      let read : getD part place 0 ≡ getD s (at + place) 0 =
+      getD-take (at + lengthOf y - at) (drop at s) place 0 (omega arith) ∙ getD-drop at s place 0
+      in
+      line-character at place h
+      ∙ elim (decLt place (y .text)) [
+        | yes digit ↦
+            simp (lt-ltb place (y .text) digit)
+            (rw (getD-take (y .text) part place 0 digit, read) at
+            (digit-known (take (y .text) part) place digits (simp (length-take, length-drop) (omega arith))))
+        | no newline ↦
+            let e : y .text ≡ place = omega arith in
+            let here : eqb (getD s (at + place) 0) 10 ≡ true =
+            ap (λ (c : ℕ). eqb c 10) (sym read) ∙ ap (λ (n : ℕ). eqb (getD part n 0) 10) (sym e) ∙ ended
+            in
+            simp (le-ltb place (y .text) (omega arith), here)
+      ]
+
+  -- the lines from an offset on answer for all: what the check finds in them, and the number after them
+  pub record Left (used at expected : ℕ) : Type 0 where
+    pub count : ℕ
+    pub filled : at + count * lengthOf y ≡ used
+    pub checked : checkLinesBy y 0 0 (usedLinesBy y (lent s used)) ≡ checkLinesBy y expected at (cutLines y count (drop at s))
+    pub numbered : numberAfter 0 (usedLinesBy y (lent s used)) ≡ numberAfter expected (cutLines y count (drop at s))
+
+  pub left-start : (used : ℕ) → used % lengthOf y ≡ 0 → Left used 0 0
+  left-start used exact =
+      record { count = used / lengthOf y; filled = omega (arith, div-add-mod' used (lengthOf y)); checked = refl; numbered = refl }
+
+  module _ {used at expected : ℕ} (left : Left used at expected) where
+    -- none is left
+    none-left : used ≤ at → left .count ≡ 0
+    none-left h = go (left .count) (left .filled)
+      where
+        go : (n : ℕ) → at + n * lengthOf y ≡ used → n ≡ 0
+        go zero e = refl
+        go (suc n) e = absurd (omega (arith, suc-mul n (lengthOf y)))
+
+    pub left-done : used ≤ at → (checkLinesBy y 0 0 (usedLinesBy y (lent s used)) ≡ sound)
+        × (numberAfter 0 (usedLinesBy y (lent s used)) ≡ expected)
+    unfolding checkLinesBy numberAfter cutLines
+    left-done h =
+        let e = none-left h in (
+          left .checked ∙ ap (λ (n : ℕ). checkLinesBy y expected at (cutLines y n (drop at s))) e,
+          left .numbered ∙ ap (λ (n : ℕ). numberAfter expected (cutLines y n (drop at s))) e,
+        )
+
+    module _ (more : at < used) where
+      -- one is, and the rest behind it
+      one-left : (k : ℕ) × (left .count ≡ suc k)
+      one-left = go (left .count) (left .filled)
+        where
+          go : (n : ℕ) → at + n * lengthOf y ≡ used → (k : ℕ) × (n ≡ suc k)
+          go zero e = absurd (omega (arith, zero-mul (lengthOf y)))
+          go (suc n) e = (n, refl)
+
+      pub left-inside : at + lengthOf y ≤ used
+      left-inside =
+          let k = one-left in
+          omega (arith, left .filled, ap (λ (n : ℕ). n * lengthOf y) (k .1), suc-mul (k .0) (lengthOf y))
+
+      stop : (fault : ℕ) → lineFault y expected (lineAt y s at) ≡ fault → fault < lengthOf y
+          → checkLinesBy y 0 0 (usedLinesBy y (lent s used)) ≡ unsound (at + fault)
+      unfolding checkLinesBy cutLines
+      stop fault e h =
+          left .checked ∙ ap (λ (n : ℕ). checkLinesBy y expected at (cutLines y n (drop at s))) (one-left .1)
+          ∙ simp (e, lt-ltb fault (lengthOf y) h)
+
+      pub stop-number : Good y (lineAt y s at) figureWidth → wrongNumber expected (numberAt s at figureWidth) ≡ true
+          → checkLinesBy y 0 0 (usedLinesBy y (lent s used)) ≡ unsound at
+      stop-number good wrong =
+          stop 0 (fault-number y (lineAt y s at) wide expected good (ap (wrongNumber expected) (line-number at) ∙ wrong)) (omega arith)
+          ∙ ap unsound (add-zero at)
+
+      pub stop-character : (place : ℕ) → place < lengthOf y → Good y (lineAt y s at) place
+          → badCharacterAt y place (getD s (at + place) 0) ≡ true
+          → (figureWidth ≤ place → wrongNumber expected (numberAt s at figureWidth) ≡ false)
+          → checkLinesBy y 0 0 (usedLinesBy y (lent s used)) ≡ unsound (at + place)
+      stop-character place h good b right =
+          stop place
+          (fault-character y (lineAt y s at) wide expected place h good (line-character at place h ∙ b)
+          (λ g. ap (wrongNumber expected) (line-number at) ∙ right g))
+          h
+
+      pub left-on : (number : ℕ) → number ≡ numberAt s at figureWidth → Good y (lineAt y s at) (lengthOf y)
+          → wrongNumber expected (numberAt s at figureWidth) ≡ false → y .late (lineAt y s at) ≡ false
+          → Left used (at + lengthOf y) (number + 1)
+      unfolding checkLinesBy numberAfter cutLines
+      left-on number read good right early =
+          let k = one-left in
+          let here : numberIn (lineAt y s at) ≡ number = line-number at ∙ sym read in
+          let faultless : lineFault y expected (lineAt y s at) ≡ lengthOf y =
+          fault-late y (lineAt y s at) wide expected good (ap (wrongNumber expected) (line-number at) ∙ right) ∙ simp early
+          in
+          record {
+            count = k .0;
+            filled = omega (arith, left .filled, ap (λ (n : ℕ). n * lengthOf y) (k .1), suc-mul (k .0) (lengthOf y));
+            checked =
+                left .checked ∙ ap (λ (n : ℕ). checkLinesBy y expected at (cutLines y n (drop at s))) (k .1)
+                ∙ simp (faultless, le-ltb (lengthOf y) (lengthOf y) (omega arith), here, drop-drop);
+            numbered =
+                left .numbered ∙ ap (λ (n : ℕ). numberAfter expected (cutLines y n (drop at s))) (k .1)
+                ∙ ap (λ (n : ℕ). numberAfter (n + 1) (cutLines y (k .0) (drop (lengthOf y) (drop at s)))) here
+                ∙ ap (λ (l : List ℕ). numberAfter (number + 1) (cutLines y (k .0) l)) (drop-drop (lengthOf y) at s);
+          }
+
+-- what a stop tells
+pub scanned-unsound : {found : Checked} {ls : List (List ℕ)} {k : Scanned} {at : ℕ} → k ≡ record { refusal = 11; offset = at; next = 0 }
+    → found ≡ unsound at → ScannedAs found ls k
+scanned-unsound e stopped = record {
+  checked = ap (λ (x : Scanned). record { refusal = x .refusal; offset = x .offset }) e ∙ sym stopped;
+  numbered = λ none. absurd (omega (arith, ap (λ (x : Scanned). x .refusal) e));
+}

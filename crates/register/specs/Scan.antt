@@ -1,0 +1,46 @@
+-- Definitions for the contracts of private functions: what the code knows of a register that it went along, of a line that it
+-- looked for, and of a line's end that it looked for. Nothing here has to be believed. Assumes nothing.
+use Prim.Native.Nat.{ℕ, _≤_, _<_}
+use mathlib.Core.Bool.{Bool, true, false}
+use mathlib.Core.List.{List}
+use mathlib.Core.Path.{_≡_}
+use lib.Dec.{eqb}
+use lib.ListN.{length, getD}
+use Rattle.calendar.specs.Tests.{any}
+use Rattle.split.specs.Frame.{numberAt}
+use Rattle.register.specs.declared.answers.Checked.{Checked}
+use Rattle.register.specs.declared.checking.Scanned.{Scanned}
+use Rattle.register.specs.Line.{figureWidth}
+use Rattle.register.specs.Layout.{Register, usedLines}
+use Rattle.register.specs.Check.{nextNumber, checkOf}
+use Rattle.register.specs.Find.{lastPlace}
+
+-- what going along lines finds: what the check found, and where that is none the number that a next line must have
+pub record ScannedAs (found : Checked) (ls : List (List ℕ)) (k : Scanned) : Type 0 where
+  pub checked : record { refusal = k .refusal; offset = k .offset } ≡ found
+  pub numbered : k .refusal ≡ 0 → k .next ≡ nextNumber ls
+
+-- what is known of a register when it is filed in: the refusal of its check, and the same number
+pub record Known (r : Register) (k : Scanned) : Type 0 where
+  pub checked : k .refusal ≡ checkOf r .refusal
+  pub numbered : k .refusal ≡ 0 → k .next ≡ nextNumber (usedLines r)
+
+-- the figure at a place of a line has a value
+unfoldable pub hasFigure : ℕ → ℕ → List ℕ → Bool
+hasFigure place value l = eqb (numberAt l place figureWidth) value
+
+-- the place of the last of the lines that passes a test, or their count where none does
+pub record LastAt (f : List ℕ → Bool) (ls : List (List ℕ)) (place : ℕ) : Type 0 where
+  pub found : place < length ls → (any f ls ≡ true) × (lastPlace f ls ≡ place)
+  pub absent : length ls ≤ place → any f ls ≡ false
+
+-- some character is LF
+unfoldable pub hasNewline : List ℕ → Bool
+hasNewline s = any (λ c. eqb c 10) s
+
+-- the end of the line that begins at a place: no newline before it, and a newline or the text's end at it
+pub record LineEnd (text : List ℕ) (at end : ℕ) : Type 0 where
+  pub after : at ≤ end
+  pub inside : end ≤ length text
+  pub unbroken : (j : ℕ) → at ≤ j → j < end → eqb (getD text j 0) 10 ≡ false
+  pub ended : end < length text → getD text end 0 ≡ 10
