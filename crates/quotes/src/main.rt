@@ -32,6 +32,18 @@ fn copy(from: &[u8], to: &mut [u8])
     }
 }
 
+// Writes out the output that waits.
+fn write_waiting(output: &[u8], progress: Progress) -> Progress
+    requires { ⌜ progress .waiting ≤ length (now output) ⌝ }
+    ensures { λ r. ⌜ (r .waiting ≡ 0) × (r .kept ≡ progress .kept) ⌝ }
+{
+    let mut next = progress;
+    let waiting = next.waiting;
+    next.failed = !io::write_all(STDOUT_FILENO, &output[..waiting]);
+    next.waiting = 0;
+    next
+}
+
 // Puts a text behind the output that waits, which is written out first where there is no room.
 fn queue(text: &[u8], output: &mut [u8], progress: Progress) -> Progress
     requires { ⌜ progress .waiting ≤ length (now output) ⌝ }
@@ -40,8 +52,7 @@ fn queue(text: &[u8], output: &mut [u8], progress: Progress) -> Progress
     let mut next = progress;
     let waiting = next.waiting;
     if output.len() - waiting < text.len() {
-        next.failed = !io::write_all(STDOUT_FILENO, &output[..waiting]);
-        next.waiting = 0;
+        next = write_waiting(output, next);
     }
     let at = next.waiting;
     if text.len() <= output.len() - at {
@@ -168,7 +179,8 @@ fn take_input(
     state
 }
 
-// Reads a block behind what is kept and takes it, or notes that the input has ended.
+// Reads a block behind what is kept and takes it, or notes that the input has ended. What waits is written out first: the
+// next line may come only after the answers to those before it.
 fn read_block(
     input: &mut [u8],
     register: &mut [u8],
@@ -179,15 +191,18 @@ fn read_block(
     requires { ⌜ (length (now input) ≡ 65536) × InBounds progress (now output) ⌝ }
     ensures { λ r. ⌜ InBounds r (now (output .exit)) ⌝ }
 {
-    let kept = progress.kept;
+    let mut state = write_waiting(output, progress);
+    if state.failed {
+        return state;
+    }
+    let kept = state.kept;
     let got = libc::read(STDIN_FILENO, &mut input[kept..]);
     let n = io::count(got, &input[kept..]);
     if n == 0 {
-        let mut last = progress;
-        last.ended = true;
-        return last;
+        state.ended = true;
+        return state;
     }
-    take_input(input, kept + n, register, refusals, output, progress)
+    take_input(input, kept + n, register, refusals, output, state)
 }
 
 // Reads and takes blocks until the input ends or a write fails. A proved loop has to end, so it counts its turns down from
@@ -227,8 +242,7 @@ fn finish(
     let kept = progress.kept;
     let state = file_text(&input[..kept], register, refusals, output, progress);
     if !state.failed {
-        let waiting = state.waiting;
-        io::write_all(STDOUT_FILENO, &output[..waiting]);
+        write_waiting(output, state);
     }
 }
 

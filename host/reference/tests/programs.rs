@@ -11,6 +11,7 @@ use std::thread;
 use cases::fields::{plain_case, refused_line};
 use cases::generator::Generator;
 use cases::random::any_case;
+use common::conversation::Conversation;
 
 /// The proved program: named by `PENSION_QUOTES`, or where it is built.
 fn proved_program() -> PathBuf {
@@ -64,11 +65,17 @@ fn excerpt(output: &[u8], place: usize) -> String {
 const EXAMPLE: &[u8] =
     b"0000000107B2060F07E707010101002DC6C007C9060107E70701000000000000000000\n00\n";
 
+/// What the first line of the example is filed as, in an empty register.
+fn example_quote() -> Vec<u8> {
+    let mut line = b"000000010000000100F1BACB00F1BACB0024426C".to_vec();
+    line.resize(120, b'0');
+    line.push(b'\n');
+    line
+}
+
 #[test]
 fn the_example() {
-    let mut expected = b"000000010000000100F1BACB00F1BACB0024426C".to_vec();
-    expected.resize(120, b'0');
-    expected.extend(b"\nR02\n");
+    let expected = [example_quote(), b"R02\n".to_vec()].concat();
     assert_eq!(assert_printed(EXAMPLE), expected);
     assert_eq!(assert_printed(&EXAMPLE[..EXAMPLE.len() - 1]), expected);
 }
@@ -186,4 +193,39 @@ fn a_long_input() {
     let line = [plain_case(&[1, 1, 3, 3]).line(), b"\n".to_vec()].concat();
     let printed = assert_printed(&line.repeat(20_000));
     assert_eq!(printed.len(), 541 * 121 + (20_000 - 541) * 4);
+}
+
+/// A host that sends a line only when the answer to the one before has come.
+#[test]
+fn each_line_is_answered_before_the_next() {
+    let mut talk = Conversation::with(&proved_program());
+    let (line, second) = EXAMPLE.split_at(71);
+    talk.say(line);
+    assert_eq!(talk.answer(), example_quote());
+    talk.say(second);
+    assert_eq!(talk.answer(), b"R02\n");
+    // Lines that come together are answered together.
+    talk.say(&[b"\n", line, b"x\n"].concat());
+    assert_eq!(talk.answer(), b"R02\n");
+    assert!(talk.answer().starts_with(b"0000000200000001"));
+    assert_eq!(talk.answer(), b"R01\n");
+    talk.close();
+    talk.assert_ended();
+}
+
+/// A line is answered when its newline comes, or the input's end.
+#[test]
+fn half_a_line_is_answered_when_it_ends() {
+    let mut talk = Conversation::with(&proved_program());
+    let line = &EXAMPLE[..70];
+    talk.say(&line[..30]);
+    talk.assert_silent();
+    talk.say(&line[30..]);
+    talk.assert_silent();
+    talk.say(b"\n0");
+    assert_eq!(talk.answer(), example_quote());
+    talk.assert_silent();
+    talk.close();
+    assert_eq!(talk.answer(), b"R02\n");
+    talk.assert_ended();
 }

@@ -8,12 +8,8 @@ use Rattle.quotes.proofs.finish.Tie as tie
 slice-aggregate-file-text : tie.Need-slice-aggregate-file-text
 slice-aggregate-file-text c = simp length-take (omega arith)
 
-slice-aggregate-write-all : tie.Need-slice-aggregate-write-all
-slice-aggregate-write-all c = simp length-take (omega arith)
-
 pub finish-spec : {M : Type 1} → statement M
 finish-spec =
     tie.close
-    (tie.spec slice-aggregate-file-text (search needs) (search needs) slice-aggregate-write-all (search needs)
-    (search needs) (search needs) (search needs) (search needs) (search needs) (search needs) (search needs)
-    (search needs))
+    (tie.spec slice-aggregate-file-text (search needs) (search needs) (search needs) (search needs) (search needs)
+    (search needs) (search needs) (search needs) (search needs) (search needs))

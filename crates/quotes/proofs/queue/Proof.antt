@@ -1,13 +1,20 @@
 -- `queue` stays inside the output: what waits is inside it after the first step, and the second adds a text only where it fits.
-use Prim.Native.Nat.{_≤_}
-use mathlib.Core.Path.{_≡_, ap}
+use Prim.Native.Nat.{ℕ, _≤_}
+use mathlib.Core.Path.{_≡_, _∙_, ap, refl}
 use mathlib.Core.Logic.{⊎-elim}
 use native.Mathlib.Omega.{arith}
-use lib.ListN.{length, length-take}
+use lib.ListN.{length}
 use borrow.Author.Needs.{needs}
 use Rattle.quotes.specs.declared.Progress.{Progress}
 use Rattle.quotes.proofs.queue.Statement.{statement}
 use Rattle.quotes.proofs.queue.Tie as tie
+
+-- what is known of a state is known of its copy
+carry : (s s' : Progress) (l k : ℕ) → s ≡ s' → (s' .waiting ≤ l) × (s' .kept ≡ k) → (s .waiting ≤ l) × (s .kept ≡ k)
+carry s s' l k e h = (
+  omega (arith, h .0, ap (λ (p : Progress). p .waiting) e),
+  ap (λ (p : Progress). p .kept) e ∙ h .1,
+)
 
 -- what waits and what is kept where the two ways of the first step meet
 settled : (c : tie.Joined1)
@@ -15,12 +22,9 @@ settled : (c : tie.Joined1)
     × (c .if1 .next .kept ≡ c .before .before .before .args .progress .kept)
 settled c =
     ⊎-elim
-    (λ w. (omega (arith, ap (λ (p : Progress). p .waiting) (w .3)), ap (λ (p : Progress). p .kept) (w .3)))
-    (λ w. (omega (arith, ap (λ (p : Progress). p .waiting) (w .1)), ap (λ (p : Progress). p .kept) (w .1)))
+    (λ w. carry _ _ _ _ (w .3) (omega (arith, w .2 .ensures .0), w .2 .ensures .1))
+    (λ w. carry _ _ _ _ (w .1) (omega arith, refl))
     (c .if1 .came)
-
-slice-aggregate-write-all : tie.Need-slice-aggregate-write-all
-slice-aggregate-write-all c = simp length-take (omega arith)
 
 sub-if2 : tie.Need-sub-if2
 sub-if2 c = omega (arith, settled c)
@@ -45,5 +49,5 @@ returns-2 c = settled (c .before)
 pub queue-spec : {M : Type 1} → statement M
 queue-spec =
     tie.close
-    (tie.spec (search needs) (search needs) slice-aggregate-write-all (search needs) sub-if2 add-end (search needs)
-    (search needs) part-copy-end (search needs) same-length returns returns-2)
+    (tie.spec (search needs) (search needs) sub-if2 add-end (search needs) (search needs) part-copy-end (search needs)
+    same-length returns returns-2)
