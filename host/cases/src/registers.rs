@@ -1,8 +1,14 @@
 //! Registers, sound and damaged.
 
+use reference::hexadecimal::NUMBER_DIGITS;
+use reference::register::LINE_DIGITS;
+
 use crate::generator::Generator;
 
-pub const LINE: usize = 121;
+pub use reference::register::LINE_LENGTH as LINE;
+
+/// Digits of a register line behind its quote number and member.
+const OTHER_DIGITS: usize = LINE_DIGITS - 2 * NUMBER_DIGITS;
 
 /// Members that random registers draw from, so that some have many lines.
 pub const MEMBERS: [u32; 5] = [0, 1, 7, 0xABCD_EF01, u32::MAX];
@@ -18,7 +24,7 @@ pub fn sound_register(random: &mut Generator, lines: usize, first: u32) -> Vec<u
         let number = first + u32::try_from(place).expect("a short register");
         let member = random.pick(&MEMBERS);
         register.extend_from_slice(format!("{number:08X}{member:08X}").as_bytes());
-        register.extend(random.digits(LINE - 17));
+        register.extend(random.digits(OTHER_DIGITS));
         register.push(b'\n');
     }
     register
@@ -26,5 +32,6 @@ pub fn sound_register(random: &mut Generator, lines: usize, first: u32) -> Vec<u
 
 /// Writes a quote number into a line of a register.
 pub fn set_number(register: &mut [u8], line: usize, number: u32) {
-    register[line * LINE..line * LINE + 8].copy_from_slice(format!("{number:08X}").as_bytes());
+    let field = &mut register[line * LINE..][..NUMBER_DIGITS];
+    field.copy_from_slice(format!("{number:08X}").as_bytes());
 }

@@ -7,9 +7,18 @@ use crate::refusals::Refusal;
 /// Pensions a case can hold.
 pub const MOST_PENSIONS: usize = 4;
 
+/// Characters of the longest case line.
+pub const MOST_CHARACTERS: usize = characters(MOST_PENSIONS);
+
 const HEAD_BYTES: usize = 13;
 const PENSION_BYTES: usize = 22;
-const MOST_BYTES: usize = HEAD_BYTES + MOST_PENSIONS * PENSION_BYTES;
+const DIGITS_IN_BYTE: usize = 2;
+const MOST_BYTES: usize = MOST_CHARACTERS / DIGITS_IN_BYTE;
+
+/// Characters of a case line with so many pensions, its newline left out.
+pub const fn characters(pensions: usize) -> usize {
+    DIGITS_IN_BYTE * (HEAD_BYTES + pensions * PENSION_BYTES)
+}
 
 /// A pension as the case line states it.
 #[derive(Clone, Copy, Debug, Default)]
@@ -54,7 +63,7 @@ pub fn read(line: &[u8]) -> Result<StatedCase, Refusal> {
         return Err(if all_digits { Refusal::Length } else { Refusal::Character });
     };
     let mut bytes = [0; MOST_BYTES];
-    let bytes = &mut bytes[..line.len() / 2];
+    let bytes = &mut bytes[..line.len() / DIGITS_IN_BYTE];
     if !hexadecimal::decode(line, bytes) {
         return Err(Refusal::Character);
     }
@@ -63,7 +72,7 @@ pub fn read(line: &[u8]) -> Result<StatedCase, Refusal> {
 
 /// The count of pensions that a line of this length has room for.
 fn pensions_in(length: usize) -> Option<usize> {
-    (1..=MOST_PENSIONS).find(|count| 2 * (HEAD_BYTES + count * PENSION_BYTES) == length)
+    (1..=MOST_PENSIONS).find(|&count| characters(count) == length)
 }
 
 /// Reads the fields of a frame with room for `count` pensions, or nothing if
@@ -143,10 +152,15 @@ mod tests {
     }
 
     #[test]
+    fn lengths_of_the_rules() {
+        assert_eq!([1, 2, 3, 4].map(characters), [70, 114, 158, 202]);
+    }
+
+    #[test]
     fn characters_come_before_length() {
         assert_eq!(read(b"").unwrap_err(), Refusal::Length);
         assert_eq!(read(b"00").unwrap_err(), Refusal::Length);
         assert_eq!(read(b"0g").unwrap_err(), Refusal::Character);
-        assert_eq!(read(&[b'0'; 70]).unwrap_err(), Refusal::Length);
+        assert_eq!(read(&[b'0'; characters(1)]).unwrap_err(), Refusal::Length);
     }
 }

@@ -7,11 +7,13 @@ use crate::money::{LumpPence, YearlyPence};
 /// Ages in months that Table 1 is held for.
 pub const TABLE_1_AGES: RangeInclusive<i32> = 636..=875;
 
-/// Age in months from which a 2015 pension is not reduced.
-pub const NORMAL_PENSION_AGE: i32 = 720;
+/// Age in years from which a 2015 pension is not reduced.
+pub const NORMAL_PENSION_YEARS: u16 = 60;
+/// The same in months.
+pub const NORMAL_PENSION_AGE: i32 = 12 * NORMAL_PENSION_YEARS as i32;
 
-const FIRST_AGE: usize = 636;
-const TABLE_1_ENTRIES: usize = 240;
+const FIRST_AGE: i32 = *TABLE_1_AGES.start();
+const TABLE_1_ENTRIES: usize = (*TABLE_1_AGES.end() - FIRST_AGE + 1) as usize;
 
 /// Table 1 at whole years of age, 53 to 73, in hundredths.
 const TABLE_1_YEARS: [u16; 21] = [
@@ -48,8 +50,8 @@ const TABLE_A: [u16; 61] = [
 
 /// Factor 1 of Table 1 at an age in months, in hundredths.
 pub fn table_1(age: i32) -> Option<u16> {
-    let age = usize::try_from(age).ok()?;
-    TABLE_1.get(age.checked_sub(FIRST_AGE)?).copied()
+    let entry = usize::try_from(age.checked_sub(FIRST_AGE)?).ok()?;
+    TABLE_1.get(entry).copied()
 }
 
 /// A 2015 pension paid `months` before the 60th birthday: reduced by Table A,

@@ -3,9 +3,15 @@
 //!
 //! It is written from the rules document alone and shares no code with the
 //! proved engine, so that the two can be held against each other.
+//!
+//! Modules use one another in one direction: [`money`], [`factors`],
+//! [`calendar`], [`hexadecimal`] and [`refusals`], then [`case_line`],
+//! [`split`], [`limit`], [`acceptance`], [`quoting`], [`register`] and
+//! [`quotes`], each only some of those before it.
 
 #![forbid(unsafe_code)]
 
+pub mod acceptance;
 pub mod calendar;
 pub mod case_line;
 pub mod factors;
@@ -13,15 +19,11 @@ pub mod hexadecimal;
 pub mod limit;
 pub mod money;
 pub mod quotes;
+pub mod quoting;
 pub mod refusals;
 pub mod register;
 pub mod split;
 
+pub use quoting::quote;
 pub use refusals::Refusal;
 pub use split::Quote;
-
-/// Quotes one case line, its newline left out.
-pub fn quote(line: &[u8]) -> Result<Quote, Refusal> {
-    let case = refusals::accept(line)?;
-    Ok(split::quote(&case))
-}

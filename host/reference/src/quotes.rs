@@ -35,6 +35,7 @@ fn refusal_line(refusal: Refusal) -> [u8; 4] {
 #[cfg(test)]
 mod tests {
     use super::*;
+    use crate::register::LINE_DIGITS;
 
     fn printed(input: &str) -> String {
         let mut output = Vec::new();
@@ -47,7 +48,7 @@ mod tests {
     #[test]
     fn example_of_the_rules() {
         let figures = "000000010000000100F1BACB00F1BACB0024426C";
-        let quote = format!("{figures:0<120}\n");
+        let quote = format!("{figures:0<LINE_DIGITS$}\n");
         assert_eq!(printed(&format!("{CASE}\n00\n")), format!("{quote}R02\n"));
         assert_eq!(printed(&format!("{CASE}\n00")), format!("{quote}R02\n"));
     }

@@ -2,16 +2,22 @@
 
 use std::ops::Range;
 
+use crate::case_line::MOST_PENSIONS;
 use crate::hexadecimal::{self, NUMBER_DIGITS};
+use crate::quoting::quote;
 use crate::refusals::Refusal;
 use crate::split::Quote;
 
 /// Hexadecimal digits of a register line.
-pub const LINE_DIGITS: usize = 120;
+pub const LINE_DIGITS: usize = NUMBERS_IN_LINE * NUMBER_DIGITS;
 /// Bytes of a register line, its newline included.
 pub const LINE_LENGTH: usize = LINE_DIGITS + 1;
 
-const NUMBERS_IN_LINE: usize = LINE_DIGITS / NUMBER_DIGITS;
+/// Quote number, member and total lump sum.
+const NUMBERS_IN_HEAD: usize = 3;
+/// Lump sum, remaining pension and second instalment.
+const NUMBERS_IN_PENSION: usize = 3;
+const NUMBERS_IN_LINE: usize = NUMBERS_IN_HEAD + MOST_PENSIONS * NUMBERS_IN_PENSION;
 const MEMBER_PLACE: Range<usize> = NUMBER_DIGITS..2 * NUMBER_DIGITS;
 
 /// Where a register is bad: the offset of its first bad character, or the used
@@ -63,7 +69,7 @@ fn number_field(line: &[u8]) -> &[u8; NUMBER_DIGITS] {
 /// Files a case line behind the used part of a register and gives the used
 /// length from then on. The case line is tested first, then the register.
 pub fn file(register: &mut [u8], used: usize, line: &[u8]) -> Result<usize, Refusal> {
-    let quote = crate::quote(line)?;
+    let quote = quote(line)?;
     let mut ledger = Ledger::open(register, used)?;
     ledger.append(&quote)?;
     Ok(ledger.used())
@@ -145,7 +151,7 @@ impl<'a> Ledger<'a> {
 
     /// Files a case line and gives the register line written for it.
     pub fn file(&mut self, line: &[u8]) -> Result<&[u8], Refusal> {
-        let quote = crate::quote(line)?;
+        let quote = quote(line)?;
         self.append(&quote)
     }
 
@@ -165,8 +171,9 @@ impl<'a> Ledger<'a> {
 /// remaining pension and second instalment of each pension.
 pub fn write_line(number: u32, quote: &Quote, line: &mut [u8; LINE_LENGTH]) {
     let mut numbers = [0; NUMBERS_IN_LINE];
-    numbers[..3].copy_from_slice(&[number, quote.member, pence(quote.total.0)]);
-    for (place, figures) in numbers[3..].chunks_exact_mut(3).enumerate() {
+    let (head, pensions) = numbers.split_at_mut(NUMBERS_IN_HEAD);
+    head.copy_from_slice(&[number, quote.member, pence(quote.total.0)]);
+    for (place, figures) in pensions.chunks_exact_mut(NUMBERS_IN_PENSION).enumerate() {
         figures[0] = pence(quote.lump[place].0);
         figures[1] = pence(quote.remaining[place].0);
         figures[2] = pence(quote.second[place].0);
@@ -182,4 +189,14 @@ pub fn write_line(number: u32, quote: &Quote, line: &mut [u8; LINE_LENGTH]) {
 /// pence, so every amount of a quote has room.
 fn pence(amount: u64) -> u32 {
     u32::try_from(amount).expect("an amount of a quote has at most eight digits")
+}
+
+#[cfg(test)]
+mod tests {
+    use super::*;
+
+    #[test]
+    fn lengths_of_the_rules() {
+        assert_eq!((LINE_DIGITS, LINE_LENGTH), (120, 121));
+    }
 }

@@ -1,5 +1,7 @@
 //! The split of the tax-free limit over the pensions of a case, and the quote.
 
+use std::array;
+
 use crate::case_line::MOST_PENSIONS;
 use crate::factors::{self, Factor};
 use crate::money::{LumpPence, YearlyPence};
@@ -93,7 +95,7 @@ pub struct Quote {
 /// allow.
 pub fn grant(case: &Case) -> [LumpPence; MOST_PENSIONS] {
     let pensions = case.pensions();
-    let mut order = [0, 1, 2, 3];
+    let mut order: [usize; MOST_PENSIONS] = array::from_fn(|place| place);
     let order = &mut order[..pensions.len()];
     // A stable sort, so that equal prices stay in line order.
     order.sort_by_key(|&place| pensions[place].price);

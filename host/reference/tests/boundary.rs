@@ -4,12 +4,13 @@
 mod common;
 
 use cases::fields::plain_case;
+use cases::registers::LINE;
 use common::guarded::{lend, lend_mut};
 use engine::{optional, Checked, Filed, FiledLines, Found, Quote};
 
 /// Used lengths that no empty buffer has.
 const BEYOND: [usize; 7] =
-    [1, 121, 242, usize::MAX / 121 * 121, usize::MAX / 2, usize::MAX - 1, usize::MAX];
+    [1, LINE, 2 * LINE, usize::MAX / LINE * LINE, usize::MAX / 2, usize::MAX - 1, usize::MAX];
 
 const BAD_REGISTER: Filed = Filed { refusal: 11, used: 0 };
 const NO_SPACE: Filed = Filed { refusal: 12, used: 0 };
@@ -76,8 +77,8 @@ fn filing_into_nothing() {
 #[test]
 fn filing_nothing() {
     for line in nothing() {
-        for used in [0, 121, 242, 243, usize::MAX] {
-            let before = [0x5A; 242];
+        for used in [0, LINE, 2 * LINE, 2 * LINE + 1, usize::MAX] {
+            let before = [0x5A; 2 * LINE];
             let (filed, after) =
                 lend_mut(&before, |register| optional::file(Some(register), used, line));
             assert_eq!(filed, EMPTY_LINE);
@@ -89,7 +90,7 @@ fn filing_nothing() {
 #[test]
 fn filing_with_a_used_length_beyond() {
     let good = plain_case(&[1, 1, 1, 1]).line();
-    for length in [1, 120, 121, 242, 400] {
+    for length in [1, LINE - 1, LINE, 2 * LINE, 400] {
         let before = vec![b'0'; length];
         for used in BEYOND.into_iter().chain([length + 1]).filter(|&used| used > length) {
             let (filed, after) = lend_mut(&before, |register| engine::file(register, used, &good));
@@ -107,10 +108,11 @@ fn filing_texts_with_buffers_missing() {
         lend_mut(&[0xEE; 3], |refusals| optional::file_all(None, Some(&text), Some(refusals)));
     assert_eq!((used, refusals), (0, vec![12, 2, 0xEE]));
     // No room for refusals.
-    let (used, register) =
-        lend_mut(&[0xEE; 130], |register| optional::file_all(Some(register), Some(&text), None));
-    assert_eq!(used, 121);
-    assert_eq!(register[121..], [0xEE; 9]);
+    let (used, register) = lend_mut(&[0xEE; LINE + 9], |register| {
+        optional::file_all(Some(register), Some(&text), None)
+    });
+    assert_eq!(used, LINE);
+    assert_eq!(register[LINE..], [0xEE; 9]);
     // No text: nothing is written at all.
     for text in nothing() {
         let (used, register) = lend_mut(&[0xEE; 130], |register| {
@@ -137,11 +139,11 @@ fn filing_lines_with_buffers_missing_or_too_short() {
         });
         assert_eq!(filed, FiledLines { used, lines: 2 });
         assert_eq!(refusals, [11, 2, 0xEE]);
-        let (filed, register) = lend_mut(&[0x5A; 120], |register| {
+        let (filed, register) = lend_mut(&[0x5A; LINE - 1], |register| {
             optional::file_lines(Some(register), used, Some(&text), None)
         });
         assert_eq!(filed, FiledLines { used, lines: 2 });
-        assert_eq!(register, [0x5A; 120]);
+        assert_eq!(register, [0x5A; LINE - 1]);
         assert_eq!(optional::file_lines(None, used, None, None), FiledLines { used, lines: 0 });
     }
     assert_eq!(optional::file_lines(None, 0, None, None), FiledLines { used: 0, lines: 0 });

@@ -66,7 +66,7 @@ fn best_of_all_splits(case: &Case, exact: &ExactLimit) -> Best {
 /// many to try.
 fn assert_grant_is_best(fields: &CaseFields) -> bool {
     let line = fields.line();
-    let case = reference::refusals::accept(&line).expect("a good case");
+    let case = reference::acceptance::accept(&line).expect("a good case");
     let splits: u64 = case.pensions().iter().map(|pension| pension.cap.0 + 1).product();
     if splits > MOST_SPLITS {
         return false;
@@ -107,7 +107,7 @@ fn no_penny_more_for_any_pension() {
     for kinds in kind_lists() {
         for _ in 0..1_000 {
             let line = good_case(&mut random, &kinds).line();
-            let case = reference::refusals::accept(&line).expect("a good case");
+            let case = reference::acceptance::accept(&line).expect("a good case");
             let granted = assert_quote(&line).lump.map(LumpPence);
             assert!(keeps_priced_limit(&case, &granted), "{}", line.escape_ascii());
             assert!(ExactLimit::of(&case).is_kept_by(&granted), "{}", line.escape_ascii());

@@ -180,7 +180,7 @@ fn prices_that_are_equal_after_rounding() {
             (pension.f1, pension.increase) = (2500, 1);
             (pension.f2, pension.f3) = terms[place];
         }
-        let accepted = reference::refusals::accept(&case.line()).expect("a good case");
+        let accepted = reference::acceptance::accept(&case.line()).expect("a good case");
         let [first, second] = accepted.pensions() else { panic!("two pensions") };
         assert_eq!(first.price, second.price);
         let exact = |pension: &Pension| (pension.factor.top, pension.factor.bottom);

@@ -9,6 +9,7 @@ use cases::registers::{sound_register, LINE, NOBODY};
 use common::compare::{
     assert_file, assert_file_all, assert_file_lines, assert_find_member, assert_find_number,
 };
+use reference::quotes::REGISTER_LENGTH;
 
 /// A register of sound lines with free bytes behind them.
 fn register_with_room(random: &mut Generator, lines: usize, first: u32, free: usize) -> Vec<u8> {
@@ -86,13 +87,14 @@ fn last_number_used_up() {
 fn refusals_of_line_and_register_together() {
     let mut random = Generator::for_test("refusals_of_line_and_register_together");
     let good = plain_case(&[1]).line();
+    let whole = 2 * LINE;
     let refused: Vec<Vec<u8>> = (1..=10).map(refused_line).collect();
     for (first, free) in [(1, 200), (1, 3), (u32::MAX - 1, 200), (u32::MAX - 1, 3)] {
         let sound = register_with_room(&mut random, 2, first, free);
         let mut damaged = sound.clone();
         damaged[200] = b'?';
         for (register, used) in
-            [(&sound, 242), (&damaged, 242), (&sound, 241), (&sound, 999 * LINE)]
+            [(&sound, whole), (&damaged, whole), (&sound, whole - 1), (&sound, 999 * LINE)]
         {
             for (refusal, line) in (1..).zip(&refused) {
                 let (filed, after) = assert_file(register, used, line);
@@ -100,7 +102,7 @@ fn refusals_of_line_and_register_together() {
                 assert!(after == *register);
             }
             let (filed, _) = assert_file(register, used, &good);
-            if used != 242 || *register == damaged {
+            if used != whole || *register == damaged {
                 assert_eq!((filed.refusal, filed.used), (11, 0));
             }
         }
@@ -207,7 +209,7 @@ fn small_texts() {
     ];
     for text in texts {
         for count in 0..6 {
-            for room in [0, 1, 120, 121, 122, 241, 242, 243] {
+            for room in [0, 1, LINE - 1, LINE, LINE + 1, 2 * LINE - 1, 2 * LINE, 2 * LINE + 1] {
                 assert_file_all(&vec![0x5A; room], text, &vec![0xEE; count]);
             }
         }
@@ -272,7 +274,7 @@ fn filed_lines_are_found_again() {
 fn a_full_register() {
     let mut random = Generator::for_test("a_full_register");
     let text = any_text(&mut random, 1_000);
-    let filed = assert_file_all(&vec![0; 65_536], &text, &vec![0xEE; 1_100]);
-    assert_eq!(filed.used, 541 * LINE);
+    let filed = assert_file_all(&vec![0; REGISTER_LENGTH], &text, &vec![0xEE; 1_100]);
+    assert_eq!(filed.used, REGISTER_LENGTH / LINE * LINE);
     assert!(filed.refusals.contains(&12));
 }

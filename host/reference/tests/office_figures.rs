@@ -63,7 +63,7 @@ fn straight_from_service() {
 fn after_a_break() {
     let case = one_pension(2, 3_200_000, [2628, 2280, 872, 1000]);
     assert_eq!(figures_of_one(&case), [17_015_192, 2_552_279, 1_701_519]);
-    let accepted = reference::refusals::accept(&case.line()).expect("a good case");
+    let accepted = reference::acceptance::accept(&case.line()).expect("a good case");
     assert_eq!(accepted.pensions()[0].cap, LumpPence(21_015_452));
 }
 
@@ -105,7 +105,7 @@ fn two_pensions_in_either_order() {
 /// The old sheets filled the pensions in line order.
 #[test]
 fn filling_in_line_order_would_total_less() {
-    let case = reference::refusals::accept(&two_pensions([3, 1]).line()).expect("a good case");
+    let case = reference::acceptance::accept(&two_pensions([3, 1]).line()).expect("a good case");
     let mut limit = case.priced_limit();
     let mut total = 0;
     for pension in case.pensions() {
@@ -130,7 +130,7 @@ fn early_payment_example() {
     case.commencement = Date::new(2025, 11, 1);
     case.pensions[0].yearly = 900_000;
     case.pensions[1].yearly = 25_000;
-    let accepted = reference::refusals::accept(&case.line()).expect("a good case");
+    let accepted = reference::acceptance::accept(&case.line()).expect("a good case");
     let yearly = accepted.pensions().iter().map(|pension| pension.yearly.0);
     assert!(yearly.eq([697_500, 19_375]));
     assert_quote(&case.line());

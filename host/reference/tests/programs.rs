@@ -11,7 +11,10 @@ use std::thread;
 use cases::fields::{plain_case, refused_line};
 use cases::generator::Generator;
 use cases::random::any_case;
+use cases::registers::LINE;
 use common::conversation::Conversation;
+use reference::case_line::{characters, MOST_CHARACTERS};
+use reference::quotes::REGISTER_LENGTH;
 
 /// The proved program: named by `PENSION_QUOTES`, or where it is built.
 fn proved_program() -> PathBuf {
@@ -62,13 +65,19 @@ fn excerpt(output: &[u8], place: usize) -> String {
     output[place..output.len().min(place + 80)].escape_ascii().to_string()
 }
 
+/// Characters of a printed refusal, its newline included.
+const REFUSAL: usize = 4;
+
+/// Characters of input that the proved program takes at a time.
+const BLOCK: usize = 1 << 16;
+
 const EXAMPLE: &[u8] =
     b"0000000107B2060F07E707010101002DC6C007C9060107E70701000000000000000000\n00\n";
 
 /// What the first line of the example is filed as, in an empty register.
 fn example_quote() -> Vec<u8> {
     let mut line = b"000000010000000100F1BACB00F1BACB0024426C".to_vec();
-    line.resize(120, b'0');
+    line.resize(LINE - 1, b'0');
     line.push(b'\n');
     line
 }
@@ -92,9 +101,9 @@ fn blank_inputs() {
 #[test]
 fn no_final_newline() {
     let line = plain_case(&[1, 3]).line();
-    assert_eq!(assert_printed(&line).len(), 121);
-    assert_eq!(assert_printed(&[&line[..], b"\n", &line].concat()).len(), 242);
-    assert_eq!(assert_printed(&[&line[..], b"\n\n"].concat())[121..], *b"R02\n");
+    assert_eq!(assert_printed(&line).len(), LINE);
+    assert_eq!(assert_printed(&[&line[..], b"\n", &line].concat()).len(), 2 * LINE);
+    assert_eq!(assert_printed(&[&line[..], b"\n\n"].concat())[LINE..], *b"R02\n");
 }
 
 #[test]
@@ -155,7 +164,7 @@ fn long_lines() {
     bad.push(b'x');
     let input = [&good[..], &long, &good, &bad, &bad[..1 << 20]].join(&b'\n');
     let printed = assert_printed(&input);
-    assert_eq!(printed.len(), 2 * 121 + 3 * 4);
+    assert_eq!(printed.len(), 2 * LINE + 3 * REFUSAL);
     assert!(printed.ends_with(b"R01\nR02\n"));
 }
 
@@ -163,7 +172,12 @@ fn long_lines() {
 #[test]
 fn a_bad_character_anywhere_in_a_long_line() {
     let good = plain_case(&[1]).line();
-    for place in [0, 1, 202, 203, 204, 300, 65_332, 65_333, 65_535, 65_536, 130_868, 199_999] {
+    // Of a line without its end the program keeps one character more than a
+    // case line has, and reads on behind those.
+    let kept = MOST_CHARACTERS + 1;
+    let near_kept = [0, 1, kept - 1, kept, kept + 1, 300];
+    let near_blocks = [BLOCK - kept - 1, BLOCK - kept, BLOCK - 1, BLOCK, 2 * BLOCK - kept - 1];
+    for place in near_kept.into_iter().chain(near_blocks).chain([199_999]) {
         let mut long = vec![b'F'; 200_000];
         long[place] = b'x';
         let printed = assert_printed(&[&long[..], b"\n", &good].concat());
@@ -177,13 +191,13 @@ fn a_bad_character_anywhere_in_a_long_line() {
 #[test]
 fn lines_across_a_block() {
     let good = plain_case(&[1, 1, 3, 3]).line();
-    for before in (0..=204).step_by(3) {
-        let mut input = vec![b'\n'; 65_536 - before];
+    for before in (0..=MOST_CHARACTERS + 2).step_by(3) {
+        let mut input = vec![b'\n'; BLOCK - before];
         for line in [&good[..], b"\n", &good, b"0\n", &good] {
             input.extend_from_slice(line);
         }
         let printed = assert_printed(&input);
-        assert_eq!(printed.len(), 4 * (65_536 - before) + 2 * 121 + 4);
+        assert_eq!(printed.len(), REFUSAL * (BLOCK - before) + 2 * LINE + REFUSAL);
     }
 }
 
@@ -192,14 +206,15 @@ fn lines_across_a_block() {
 fn a_long_input() {
     let line = [plain_case(&[1, 1, 3, 3]).line(), b"\n".to_vec()].concat();
     let printed = assert_printed(&line.repeat(20_000));
-    assert_eq!(printed.len(), 541 * 121 + (20_000 - 541) * 4);
+    let filed = REGISTER_LENGTH / LINE;
+    assert_eq!(printed.len(), filed * LINE + (20_000 - filed) * REFUSAL);
 }
 
 /// A host that sends a line only when the answer to the one before has come.
 #[test]
 fn each_line_is_answered_before_the_next() {
     let mut talk = Conversation::with(&proved_program());
-    let (line, second) = EXAMPLE.split_at(71);
+    let (line, second) = EXAMPLE.split_at(characters(1) + 1);
     talk.say(line);
     assert_eq!(talk.answer(), example_quote());
     talk.say(second);
@@ -217,7 +232,7 @@ fn each_line_is_answered_before_the_next() {
 #[test]
 fn half_a_line_is_answered_when_it_ends() {
     let mut talk = Conversation::with(&proved_program());
-    let line = &EXAMPLE[..70];
+    let line = &EXAMPLE[..characters(1)];
     talk.say(&line[..30]);
     talk.assert_silent();
     talk.say(&line[30..]);

@@ -7,6 +7,7 @@ use cases::generator::Generator;
 use cases::random::{any_case, good_case, kind_lists};
 use common::compare::{assert_quote, assert_refusal};
 use reference::calendar::Date;
+use reference::case_line::{characters, MOST_CHARACTERS};
 
 #[test]
 fn good_cases_of_every_kind_and_count() {
@@ -115,7 +116,7 @@ fn good_lines_cut_and_extended() {
             assert_quote(&[&[character], &line[..]].concat());
         }
         // A whole further pension, which the count does not know of.
-        let further = random.digits(44);
+        let further = random.digits(characters(1) - characters(0));
         assert_quote(&[line, further].concat());
     }
 }
@@ -123,7 +124,7 @@ fn good_lines_cut_and_extended() {
 /// Long lines are refused for their length, or for a bad character anywhere.
 #[test]
 fn long_lines() {
-    for length in [203, 1_000, 65_536, 1 << 20] {
+    for length in [MOST_CHARACTERS + 1, 1_000, 65_536, 1 << 20] {
         let mut line = vec![b'A'; length];
         assert_eq!(assert_quote(&line).refusal, 2);
         for place in [0, length / 2, length - 1] {

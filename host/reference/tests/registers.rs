@@ -42,7 +42,7 @@ fn sound_registers() {
         for first in first_numbers(&mut random, lines) {
             let mut register = sound_register(&mut random, lines, first);
             let used = register.len();
-            for spare in [0, 1, 120, 121, 300] {
+            for spare in [0, 1, LINE - 1, LINE, 300] {
                 register.truncate(used);
                 register.extend(random.bytes(spare));
                 assert_eq!(assert_check(&register, used).refusal, 0);
@@ -152,7 +152,7 @@ fn assert_wrong_number(register: &[u8], used: usize, line: usize) {
     let start = line * LINE;
     assert_offset(register, used, Some(start));
     let mut register = register.to_vec();
-    for behind in [start + 8, start + 60, start + 120, used - 1] {
+    for behind in [start + 8, start + 60, start + LINE - 1, used - 1] {
         let whole = std::mem::replace(&mut register[behind], b'x');
         assert_offset(&register, used, Some(start));
         register[behind] = whole;
@@ -229,9 +229,9 @@ fn used_lengths() {
 #[test]
 fn used_length_comes_before_characters() {
     let mut random = Generator::for_test("used_length_comes_before_characters");
-    for length in [0, 1, 121, 122, 242, 363] {
+    for length in [0, 1, LINE, LINE + 1, 2 * LINE, 3 * LINE] {
         let register = random.bytes(length);
-        for used in [1, 120, 122, 243, 364, 484, usize::MAX] {
+        for used in [1, LINE - 1, LINE + 1, 2 * LINE + 1, 3 * LINE + 1, 4 * LINE, usize::MAX] {
             assert_offset(&register, used, Some(used));
         }
         assert_offset(&register, 0, None);
