@@ -1,0 +1,224 @@
+/* Prints every struct and constant of pension.h as the C compiler has them, for
+ * header.rs to compare, and makes every call of it on real inputs. Its exit
+ * status is 0 only if each call answered as expected. */
+#include <stdio.h>
+#include <string.h>
+
+#include "pension.h"
+
+/* The calls. With another prototype in the header these are errors. */
+static struct pension_quote (*const quote)(const uint8_t *, size_t) = pension_quote;
+static struct pension_checked (*const check)(const uint8_t *, size_t, size_t) = pension_check;
+static struct pension_filed (*const file)(uint8_t *, size_t, size_t, const uint8_t *, size_t) = pension_file;
+static struct pension_filed_lines (*const file_lines)(uint8_t *, size_t, size_t, const uint8_t *, size_t,
+                                                      uint8_t *, size_t) = pension_file_lines;
+static size_t (*const file_all)(uint8_t *, size_t, const uint8_t *, size_t, uint8_t *, size_t) = pension_file_all;
+static struct pension_found (*const find_number)(const uint8_t *, size_t, size_t, uint32_t) = pension_find_number;
+static struct pension_found (*const find_member)(const uint8_t *, size_t, size_t, uint32_t) = pension_find_member;
+
+/* Cases of document 01, by member: the example of the program, a kind 2 pension,
+ * and kind 1 with kind 3. */
+#define MEMBER_1 "0000000107B2060F07E707010101002DC6C007C9060107E70701000000000000000000"
+#define MEMBER_2 "0000000207B2060F07E7070101020030D40007C9060107E70701000A4408E8036803E8"
+#define MEMBER_3 "0000000307B0070107E707010201001E848007C9060107E707010009C4000000000000" \
+                 "03000DBBA007E6040107E70701000000000000000000"
+#define SHORT_LINE "00"
+/* What the first case is filed as in an empty register, up to its zeros. */
+#define FILED_1 "000000010000000100F1BACB00F1BACB0024426C"
+
+enum { LINE = PENSION_LINE_LENGTH, ROOM = 3 * LINE, UNTOUCHED = 0xEE };
+
+static int failures = 0;
+
+#define EXPECT(condition)                                                           \
+    do {                                                                            \
+        if (!(condition)) {                                                         \
+            fprintf(stderr, "header.c:%d: expected %s\n", __LINE__, #condition);    \
+            failures++;                                                             \
+        }                                                                           \
+    } while (0)
+
+#define STRUCT(name) printf("%s %zu\n", #name, sizeof(struct name))
+#define FIELD(name, field)                                                             \
+    printf("%s.%s %zu %zu\n", #name, #field, offsetof(struct name, field),             \
+           sizeof(((struct name *)0)->field))
+#define CONSTANT(name) printf("%s %d\n", #name, (int)(name))
+
+static void print_structs(void)
+{
+    STRUCT(pension_quote);
+    FIELD(pension_quote, refusal);
+    FIELD(pension_quote, member);
+    FIELD(pension_quote, total);
+    FIELD(pension_quote, lump);
+    FIELD(pension_quote, remaining);
+    FIELD(pension_quote, second);
+    STRUCT(pension_checked);
+    FIELD(pension_checked, refusal);
+    FIELD(pension_checked, offset);
+    STRUCT(pension_filed);
+    FIELD(pension_filed, refusal);
+    FIELD(pension_filed, used);
+    STRUCT(pension_filed_lines);
+    FIELD(pension_filed_lines, used);
+    FIELD(pension_filed_lines, lines);
+    STRUCT(pension_found);
+    FIELD(pension_found, refusal);
+    FIELD(pension_found, offset);
+    FIELD(pension_found, length);
+}
+
+static void print_constants(void)
+{
+    CONSTANT(PENSION_LINE_LENGTH);
+    CONSTANT(PENSION_CASE_LENGTH);
+    CONSTANT(PENSION_MOST);
+    CONSTANT(PENSION_GRANTED);
+    CONSTANT(PENSION_BAD_CHARACTER);
+    CONSTANT(PENSION_BAD_LENGTH);
+    CONSTANT(PENSION_BAD_DATE);
+    CONSTANT(PENSION_BAD_ORDER);
+    CONSTANT(PENSION_BAD_AGE);
+    CONSTANT(PENSION_UNKNOWN_KIND);
+    CONSTANT(PENSION_BAD_TERMS);
+    CONSTANT(PENSION_WRONG_AGE);
+    CONSTANT(PENSION_NO_FACTOR);
+    CONSTANT(PENSION_BAD_AMOUNT);
+    CONSTANT(PENSION_BAD_REGISTER);
+    CONSTANT(PENSION_NO_SPACE);
+    CONSTANT(PENSION_NO_NUMBER);
+    CONSTANT(PENSION_ABSENT);
+}
+
+static struct pension_quote quote_of(const char *line)
+{
+    return quote((const uint8_t *)line, strlen(line));
+}
+
+static struct pension_filed filed(uint8_t *register_bytes, size_t used, const char *line)
+{
+    return file(register_bytes, ROOM, used, (const uint8_t *)line, strlen(line));
+}
+
+/* Whether `length` bytes are as memset wrote them. */
+static int is_untouched(const uint8_t *bytes, size_t length)
+{
+    for (size_t k = 0; k < length; k++)
+        if (bytes[k] != UNTOUCHED)
+            return 0;
+    return 1;
+}
+
+static void try_quote(void)
+{
+    struct pension_quote one = quote_of(MEMBER_1);
+    EXPECT(one.refusal == PENSION_GRANTED && one.member == 1 && one.total == 0xF1BACB);
+    EXPECT(one.lump[0] == 0xF1BACB && one.remaining[0] == 0x24426C && one.second[0] == 0);
+
+    struct pension_quote two = quote_of(MEMBER_2);
+    EXPECT(two.refusal == PENSION_GRANTED && two.member == 2 && two.total == 17015192);
+    EXPECT(two.lump[0] == 17015192 && two.remaining[0] == 2552279 && two.second[0] == 1701519);
+
+    struct pension_quote three = quote_of(MEMBER_3);
+    EXPECT(three.refusal == PENSION_GRANTED && three.member == 3 && three.total == 12500000 + 1382142);
+    EXPECT(three.lump[0] == 12500000 && three.remaining[0] == 1500000 && three.second[0] == 0);
+    EXPECT(three.lump[1] == 1382142 && three.remaining[1] == 582322 && three.second[1] == 0);
+    for (int k = 2; k < PENSION_MOST; k++)
+        EXPECT(three.lump[k] == 0 && three.remaining[k] == 0 && three.second[k] == 0);
+
+    struct pension_quote refused = quote_of(SHORT_LINE);
+    EXPECT(refused.refusal == PENSION_BAD_LENGTH && refused.member == 0 && refused.total == 0);
+}
+
+/* Files members 1, 2 and 1 again, which fills the register. */
+static void try_file(uint8_t *register_bytes)
+{
+    struct pension_filed first = filed(register_bytes, 0, MEMBER_1);
+    EXPECT(first.refusal == PENSION_GRANTED && first.used == LINE);
+    EXPECT(memcmp(register_bytes, FILED_1, strlen(FILED_1)) == 0);
+    EXPECT(register_bytes[LINE - 1] == '\n');
+
+    struct pension_filed refused = filed(register_bytes, LINE, SHORT_LINE);
+    EXPECT(refused.refusal == PENSION_BAD_LENGTH && refused.used == 0);
+    EXPECT(is_untouched(register_bytes + LINE, ROOM - LINE));
+
+    struct pension_filed second = filed(register_bytes, LINE, MEMBER_2);
+    EXPECT(second.refusal == PENSION_GRANTED && second.used == 2 * LINE);
+    struct pension_filed third = filed(register_bytes, 2 * LINE, MEMBER_1);
+    EXPECT(third.refusal == PENSION_GRANTED && third.used == 3 * LINE);
+    struct pension_filed full = filed(register_bytes, 3 * LINE, MEMBER_3);
+    EXPECT(full.refusal == PENSION_NO_SPACE && full.used == 0);
+}
+
+static void try_find(const uint8_t *register_bytes)
+{
+    struct pension_found number = find_number(register_bytes, ROOM, ROOM, 2);
+    EXPECT(number.refusal == PENSION_GRANTED && number.offset == LINE && number.length == LINE);
+    struct pension_found no_number = find_number(register_bytes, ROOM, ROOM, 4);
+    EXPECT(no_number.refusal == PENSION_ABSENT && no_number.offset == 0 && no_number.length == 0);
+
+    struct pension_found newest = find_member(register_bytes, ROOM, ROOM, 1);
+    EXPECT(newest.refusal == PENSION_GRANTED && newest.offset == 2 * LINE && newest.length == LINE);
+    struct pension_found older = find_member(register_bytes, ROOM, 2 * LINE, 1);
+    EXPECT(older.refusal == PENSION_GRANTED && older.offset == 0 && older.length == LINE);
+    struct pension_found no_member = find_member(register_bytes, ROOM, ROOM, 3);
+    EXPECT(no_member.refusal == PENSION_ABSENT && no_member.offset == 0 && no_member.length == 0);
+}
+
+/* Damages the register's second line. */
+static void try_check(uint8_t *register_bytes)
+{
+    struct pension_checked sound = check(register_bytes, ROOM, ROOM);
+    EXPECT(sound.refusal == PENSION_GRANTED && sound.offset == 0);
+    struct pension_checked bad_used = check(register_bytes, ROOM, ROOM - 1);
+    EXPECT(bad_used.refusal == PENSION_BAD_REGISTER && bad_used.offset == ROOM - 1);
+
+    register_bytes[LINE + 9] = 'g';
+    struct pension_checked bad_line = check(register_bytes, ROOM, ROOM);
+    EXPECT(bad_line.refusal == PENSION_BAD_REGISTER && bad_line.offset == LINE + 9);
+    struct pension_found not_found = find_number(register_bytes, ROOM, ROOM, 1);
+    EXPECT(not_found.refusal == PENSION_BAD_REGISTER && not_found.length == 0);
+}
+
+/* The lines of a text, filed one by one, all into an empty register, and behind
+ * a first line. */
+static void try_texts(void)
+{
+    static const char text[] = MEMBER_2 "\n" SHORT_LINE "\n" MEMBER_1;
+    const uint8_t *lines = (const uint8_t *)text;
+    uint8_t one_by_one[ROOM], together[ROOM], refusals[4];
+    memset(one_by_one, UNTOUCHED, sizeof one_by_one);
+    memset(together, UNTOUCHED, sizeof together);
+    memset(refusals, UNTOUCHED, sizeof refusals);
+    filed(one_by_one, 0, MEMBER_2);
+    filed(one_by_one, LINE, MEMBER_1);
+
+    size_t used = file_all(together, ROOM, lines, strlen(text), refusals, sizeof refusals);
+    EXPECT(used == 2 * LINE && memcmp(together, one_by_one, ROOM) == 0);
+    EXPECT(refusals[0] == PENSION_GRANTED && refusals[1] == PENSION_BAD_LENGTH);
+    EXPECT(refusals[2] == PENSION_GRANTED && refusals[3] == UNTOUCHED);
+
+    memset(refusals, UNTOUCHED, sizeof refusals);
+    memset(together + LINE, UNTOUCHED, ROOM - LINE);
+    struct pension_filed_lines more = file_lines(together, ROOM, LINE, lines, strlen(text), refusals, 2);
+    EXPECT(more.used == 3 * LINE && more.lines == 3);
+    EXPECT(refusals[0] == PENSION_GRANTED && refusals[1] == PENSION_BAD_LENGTH);
+    EXPECT(refusals[2] == UNTOUCHED && refusals[3] == UNTOUCHED);
+    EXPECT(check(together, ROOM, more.used).refusal == PENSION_GRANTED);
+    EXPECT(find_member(together, ROOM, more.used, 2).offset == LINE);
+}
+
+int main(void)
+{
+    uint8_t register_bytes[ROOM];
+    memset(register_bytes, UNTOUCHED, sizeof register_bytes);
+
+    print_structs();
+    print_constants();
+    try_quote();
+    try_file(register_bytes);
+    try_find(register_bytes);
+    try_check(register_bytes);
+    try_texts();
+    return failures != 0;
+}

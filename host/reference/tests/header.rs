@@ -1,0 +1,106 @@
+//! The C header, as a C compiler reads it: its structs and constants against
+//! those of the Rust side, and every call made from C.
+
+use std::env;
+use std::fmt::Write;
+use std::mem::{offset_of, size_of};
+use std::path::{Path, PathBuf};
+use std::process::Command;
+
+use engine::{Checked, Filed, FiledLines, Found, Quote, MOST_PENSIONS};
+use reference::{case_line, register, Refusal};
+
+/// Every warning is an error.
+const FLAGS: [&str; 7] =
+    ["-std=c11", "-O2", "-Wall", "-Wextra", "-Wpedantic", "-Wconversion", "-Werror"];
+
+/// Compiles header.c with the header and links it with the engine's archive.
+fn compiled_program() -> PathBuf {
+    let package = Path::new(env!("CARGO_MANIFEST_DIR"));
+    let program = Path::new(env!("CARGO_TARGET_TMPDIR")).join("header");
+    let compiler = env::var_os("CC").unwrap_or_else(|| "cc".into());
+    let status = Command::new(compiler)
+        .args(FLAGS)
+        .arg("-I")
+        .arg(package.join("../include"))
+        .arg(package.join("tests/header.c"))
+        .arg(package.join("../../target/staticlib/libpension.a"))
+        .arg("-o")
+        .arg(&program)
+        .status()
+        .expect("a C compiler starts");
+    assert!(status.success(), "header.c does not compile");
+    program
+}
+
+fn size_of_field<S, F>(_: fn(&S) -> &F) -> usize {
+    size_of::<F>()
+}
+
+/// Writes a struct's name and size, and each field's name, offset and size.
+macro_rules! write_struct {
+    ($text:ident, $name:literal, $type:ty: $($field:ident),+) => {
+        writeln!($text, "{} {}", $name, size_of::<$type>()).expect("text grows");
+        $(
+            let (offset, size) =
+                (offset_of!($type, $field), size_of_field(|value: &$type| &value.$field));
+            writeln!($text, "{}.{} {offset} {size}", $name, stringify!($field)).expect("text grows");
+        )+
+    };
+}
+
+/// The structs of the Rust side, as header.c prints those of the header.
+fn structs() -> String {
+    let mut text = String::new();
+    write_struct!(text, "pension_quote", Quote: refusal, member, total, lump, remaining, second);
+    write_struct!(text, "pension_checked", Checked: refusal, offset);
+    write_struct!(text, "pension_filed", Filed: refusal, used);
+    write_struct!(text, "pension_filed_lines", FiledLines: used, lines);
+    write_struct!(text, "pension_found", Found: refusal, offset, length);
+    text
+}
+
+/// The constants, as header.c prints those of the header.
+fn constants() -> String {
+    let lengths = [
+        ("LINE_LENGTH", register::LINE_LENGTH),
+        ("CASE_LENGTH", case_line::MOST_CHARACTERS),
+        ("MOST", MOST_PENSIONS),
+        ("GRANTED", 0),
+    ];
+    let refusals = [
+        ("BAD_CHARACTER", Refusal::Character),
+        ("BAD_LENGTH", Refusal::Length),
+        ("BAD_DATE", Refusal::Date),
+        ("BAD_ORDER", Refusal::DateOrder),
+        ("BAD_AGE", Refusal::Age),
+        ("UNKNOWN_KIND", Refusal::Kind),
+        ("BAD_TERMS", Refusal::Terms),
+        ("WRONG_AGE", Refusal::KindAtAge),
+        ("NO_FACTOR", Refusal::AgeOutsideTable),
+        ("BAD_AMOUNT", Refusal::StatedPension),
+        ("BAD_REGISTER", Refusal::Register),
+        ("NO_SPACE", Refusal::NoSpace),
+        ("NO_NUMBER", Refusal::LastNumber),
+        ("ABSENT", Refusal::Absent),
+    ];
+    let refusals = refusals.map(|(name, refusal)| (name, usize::from(refusal.number())));
+    lengths
+        .iter()
+        .chain(&refusals)
+        .map(|(name, value)| format!("PENSION_{name} {value}\n"))
+        .collect()
+}
+
+#[test]
+fn the_header_for_c() {
+    let output = Command::new(compiled_program()).output().expect("the program starts");
+    let printed = String::from_utf8(output.stdout).expect("names and numbers");
+    let expected = structs() + &constants();
+    for (printed, expected) in printed.lines().zip(expected.lines()) {
+        assert_eq!(printed, expected, "pension.h differs from the Rust side");
+    }
+    assert_eq!(printed, expected);
+    assert_eq!(output.stderr.escape_ascii().to_string(), "");
+    assert!(output.status.success(), "header.c ended with {}", output.status);
+}
