@@ -216,6 +216,21 @@ fn small_texts() {
     }
 }
 
+/// A newline is a bad character of one line, and ends a line of a text.
+#[test]
+fn newlines_in_a_line_and_in_a_text() {
+    let good = plain_case(&[1]).line();
+    let register = [0x5A; 3 * LINE];
+    let two = [&good[..], b"\n", &good].concat();
+    for line in [&[&good[..], b"\n"].concat(), &two] {
+        let (filed, after) = assert_file(&register, 0, line);
+        assert_eq!((filed.refusal, filed.used), (1, 0));
+        assert!(after == register);
+    }
+    let filed = assert_file_all(&register, &two, &[9; 2]);
+    assert_eq!((filed.used, filed.refusals), (2 * LINE, vec![0, 0]));
+}
+
 /// A register that looks filled from before is taken as empty all the same.
 #[test]
 fn texts_start_with_an_empty_register() {
