@@ -16,7 +16,7 @@ use Rattle.split.proofs.FrameLaws.{number-below}
 use Rattle.register.specs.declared.answers.Checked.{Checked}
 use Rattle.register.specs.Line.{figureWidth, textLength, lineFor, numberIn}
 use Rattle.register.specs.Layout.{Layout, Register, lengthOf, usedLinesBy, usedBy, lineLayout, lineLength}
-use Rattle.register.specs.Check.{numberAfter, wrongNumber, unsound, badAt, firstBad, lineFault, checkLinesBy, badUsedBy, checkBy}
+use Rattle.register.specs.Check.{following, numberAfter, wrongNumber, unsound, badAt, firstBad, lineFault, checkLinesBy, badUsedBy, checkBy}
 use Rattle.register.proofs.LineLaws.{line-digit, line-end, number-back}
 use Rattle.register.proofs.LayoutLaws.{Whole, whole-length}
 
@@ -26,16 +26,16 @@ unfolding numberIn
 number-low l = number-below l 0 figureWidth
 
 -- the number after one more line, and after any lines that follow a first
-pub after-more : (expected : ℕ) (ls : List (List ℕ)) (l : List ℕ) → numberAfter expected (ls ++ (l ∷ [])) ≡ numberIn l + 1
+pub after-more : (expected : ℕ) (ls : List (List ℕ)) (l : List ℕ) → numberAfter expected (ls ++ (l ∷ [])) ≡ following (numberIn l)
 unfolding numberAfter
 after-more expected [] l = refl
-after-more expected (m ∷ ls) l = after-more (numberIn m + 1) ls l
+after-more expected (m ∷ ls) l = after-more (following (numberIn m)) ls l
 
--- it fits 33 bits, and behind a line it is not 0
-pub after-low : (expected : ℕ) (ls : List (List ℕ)) → expected ≤ 4294967296 → numberAfter expected ls ≤ 4294967296
-unfolding numberAfter
+-- it fits 33 bits
+pub after-low : (expected : ℕ) (ls : List (List ℕ)) → expected < 8589934592 → numberAfter expected ls < 8589934592
+unfolding numberAfter following
 after-low expected [] h = h
-after-low expected (l ∷ ls) h = after-low (numberIn l + 1) ls (omega (arith, number-low l))
+after-low expected (l ∷ ls) h = after-low (following (numberIn l)) ls (omega (arith, number-low l))
 
 -- a right number
 pub any-right : (n : ℕ) → 0 < n → wrongNumber 0 n ≡ false
@@ -126,12 +126,12 @@ module _ (y : Layout) where
   -- lines of which the first has no fault check as the rest does, and sound lines begin so
   check-first : (l : List ℕ) (ls : List (List ℕ)) (expected at : ℕ) → checkLinesBy y expected at (l ∷ ls) .refusal ≡ 0
       → (ltb (lineFault y expected l) (lengthOf y) ≡ false)
-      × (checkLinesBy y (numberIn l + 1) (at + lengthOf y) ls .refusal ≡ 0)
+      × (checkLinesBy y (following (numberIn l)) (at + lengthOf y) ls .refusal ≡ 0)
   unfolding checkLinesBy
   check-first l ls expected at = go (ltb (lineFault y expected l) (lengthOf y))
     where
-      go : (b : Bool) → cond b (unsound (at + lineFault y expected l)) (checkLinesBy y (numberIn l + 1) (at + lengthOf y) ls) .refusal ≡ 0
-          → (b ≡ false) × (checkLinesBy y (numberIn l + 1) (at + lengthOf y) ls .refusal ≡ 0)
+      go : (b : Bool) → cond b (unsound (at + lineFault y expected l)) (checkLinesBy y (following (numberIn l)) (at + lengthOf y) ls) .refusal ≡ 0
+          → (b ≡ false) × (checkLinesBy y (following (numberIn l)) (at + lengthOf y) ls .refusal ≡ 0)
       go true e = absurd (omega arith)
       go false e = (refl, e)
 
@@ -142,12 +142,13 @@ module _ (y : Layout) where
   check-more [] l expected at good new = simp (new, le-ltb (lengthOf y) (lengthOf y) (omega arith))
   check-more (m ∷ ls) l expected at good new =
       let first = check-first m ls expected at good in
-      simp (first .0) (check-more ls l (numberIn m + 1) (at + lengthOf y) (first .1) new)
+      simp (first .0) (check-more ls l (following (numberIn m)) (at + lengthOf y) (first .1) new)
 
   module _ (wide : figureWidth ≤ y .text) where
     -- the numbers of sound lines rise by one, from the expected one where one is expected
     rising : (ls : List (List ℕ)) (expected at k : ℕ) → 0 < expected → checkLinesBy y expected at ls .refusal ≡ 0
         → k < length ls → numberIn (getD ls k []) ≡ expected + k
+    unfolding following
     rising [] expected at k some good h = absurd (omega arith)
     rising (l ∷ ls) expected at zero some good h =
         omega (
@@ -158,15 +159,16 @@ module _ (y : Layout) where
     rising (l ∷ ls) expected at (suc k) some good h =
         let first = check-first l ls expected at good in
         let same = right-same expected (numberIn l) some (faultless-right y l wide expected (first .0)) in
-        omega (arith, rising ls (numberIn l + 1) (at + lengthOf y) k (omega arith) (first .1) (omega arith))
+        omega (arith, rising ls (following (numberIn l)) (at + lengthOf y) k (omega arith) (first .1) (omega arith))
 
     -- so a sound register's line k has the first line's number plus k
     pub sound-number : (ls : List (List ℕ)) (at k : ℕ) → checkLinesBy y 0 at ls .refusal ≡ 0 → k < length ls
         → numberIn (getD ls k []) ≡ numberIn (getD ls 0 []) + k
+    unfolding following
     sound-number [] at k good h = absurd (omega arith)
     sound-number (l ∷ ls) at zero good h = omega arith
     sound-number (l ∷ ls) at (suc k) good h =
-        omega (arith, rising ls (numberIn l + 1) (at + lengthOf y) k (omega arith) (check-first l ls 0 at good .1) (omega arith))
+        omega (arith, rising ls (following (numberIn l)) (at + lengthOf y) k (omega arith) (check-first l ls 0 at good .1) (omega arith))
 
 -- a good used length lies in the buffer and is whole lines
 module _ (y : Layout) where

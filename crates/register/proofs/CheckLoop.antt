@@ -20,7 +20,7 @@ use Rattle.register.specs.declared.answers.Checked.{Checked}
 use Rattle.register.specs.declared.checking.Scanned.{Scanned}
 use Rattle.register.specs.Line.{figureWidth, numberPlace, numberIn}
 use Rattle.register.specs.Layout.{Layout, lent, lengthOf, cutLines, usedLinesBy}
-use Rattle.register.specs.Check.{numberAfter, wrongNumber, sound, unsound, badAt, lineFault, checkLinesBy}
+use Rattle.register.specs.Check.{following, numberAfter, wrongNumber, sound, unsound, badAt, lineFault, checkLinesBy}
 use Rattle.register.specs.Scan.{ScannedAs}
 use Rattle.register.proofs.LayoutLaws.{lineAt}
 use Rattle.register.proofs.CheckLaws.{Good, fault-number, fault-character, fault-late}
@@ -149,7 +149,7 @@ module _ (y : Layout) (wide : figureWidth ≤ y .text) (s : List ℕ) where
 
       pub left-on : (number : ℕ) → number ≡ numberAt s at figureWidth → Good y (lineAt y s at) (lengthOf y)
           → wrongNumber expected (numberAt s at figureWidth) ≡ false → y .late (lineAt y s at) ≡ false
-          → Left used (at + lengthOf y) (number + 1)
+          → Left used (at + lengthOf y) (following number)
       unfolding checkLinesBy numberAfter cutLines
       left-on number read good right early =
           let k = one-left in
@@ -165,8 +165,8 @@ module _ (y : Layout) (wide : figureWidth ≤ y .text) (s : List ℕ) where
                 ∙ simp (faultless, le-ltb (lengthOf y) (lengthOf y) (omega arith), here, drop-drop);
             numbered =
                 left .numbered ∙ ap (λ (n : ℕ). numberAfter expected (cutLines y n (drop at s))) (k .1)
-                ∙ ap (λ (n : ℕ). numberAfter (n + 1) (cutLines y (k .0) (drop (lengthOf y) (drop at s)))) here
-                ∙ ap (λ (l : List ℕ). numberAfter (number + 1) (cutLines y (k .0) l)) (drop-drop (lengthOf y) at s);
+                ∙ ap (λ (n : ℕ). numberAfter (following n) (cutLines y (k .0) (drop (lengthOf y) (drop at s)))) here
+                ∙ ap (λ (l : List ℕ). numberAfter (following number) (cutLines y (k .0) l)) (drop-drop (lengthOf y) at s);
           }
 
 -- what a stop tells

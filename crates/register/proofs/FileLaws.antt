@@ -16,7 +16,7 @@ use Rattle.split.specs.Refusal.{refusalOf}
 use Rattle.register.specs.declared.answers.Filed.{Filed}
 use Rattle.register.specs.Line.{lineFor}
 use Rattle.register.specs.Layout.{Register, lent, lineLength, usedLines}
-use Rattle.register.specs.Check.{numberAfter, nextNumber, wrongNumber}
+use Rattle.register.specs.Check.{following, numberAfter, nextNumber, wrongNumber}
 use Rattle.register.specs.File.{Filing, firstNumber, numberGiven, noSpace, lastTaken, refusalGiven, fileRefusal, filedAnswer, textFiled, over, grown}
 use Rattle.register.proofs.LineLaws.{number-back}
 use Rattle.register.proofs.CheckLaws.{after-more, any-right, next-right}
@@ -96,9 +96,9 @@ module _ (ls : List (List ℕ)) where
   given-low h = number-fits (nextNumber ls) 4294967296 (omega arith) h
 
   pub given-next : (c : List ℕ) → numberGiven ls < 4294967296
-      → nextNumber (ls ++ (lineFor (numberGiven ls) c ∷ [])) ≡ numberGiven ls + 1
+      → nextNumber (ls ++ (lineFor (numberGiven ls) c ∷ [])) ≡ following (numberGiven ls)
   given-next c low =
-      after-more 0 ls (lineFor (numberGiven ls) c) ∙ ap (λ (n : ℕ). n + 1) (number-back (numberGiven ls) c low)
+      after-more 0 ls (lineFor (numberGiven ls) c) ∙ ap following (number-back (numberGiven ls) c low)
 
 -- where a next number is known, it is given
 pub given-known : (ls : List (List ℕ)) (n : ℕ) → nextNumber ls ≡ n → 0 < n → numberGiven ls ≡ n

@@ -18,7 +18,7 @@ use Rattle.register.specs.declared.answers.FiledLines.{FiledLines}
 use Rattle.register.specs.declared.checking.Scanned.{Scanned}
 use Rattle.register.specs.Line.{shareCount, figuresOf, figuresFor, lineText, lineFor}
 use Rattle.register.specs.Layout.{Register, lent, lineLength, usedLines}
-use Rattle.register.specs.Check.{nextNumber, checkOf}
+use Rattle.register.specs.Check.{following, nextNumber, checkOf}
 use Rattle.register.specs.Steps.{Step, runs}
 use Rattle.register.specs.File.{Filing, filing, firstNumber, numberGiven, refusalGiven, fileRefusal, filedAnswer, textFiled, over, grown, fileStep, fileRun}
 use Rattle.register.specs.Text.{textLines, textFilings, refusalBytes, FiledText, FiledAll}
@@ -117,13 +117,13 @@ module _ (r : Register) (f : Filing) (k : Scanned) (known : Known r k) (a : File
   unfolding fileStep
   said = ap (λ (x : Filed). x .refusal) answered ∙ answer-refusal (fileRefusal r f) _
 
-  pub granted-low : a .refusal ≡ 0 → k .next ≤ 4294967296
+  pub granted-low : a .refusal ≡ 0 → k .next < 8589934592
   granted-low h =
       let sound = known .checked ∙ file-sound r f (sym said ∙ h) in
       rw (known .numbered sound) (after-low 0 (usedLines r) (omega arith))
 
   pub granted-next : (used : ℕ) (k′ : Scanned) → a .refusal ≡ 0 → used ≡ a .used → k′ .refusal ≡ k .refusal
-      → k′ .next ≡ cond (eqb (k .next) 0) firstNumber (k .next) + 1 → (used ≡ fileStep r f .state .used) × Known (fileStep r f .state) k′
+      → k′ .next ≡ following (cond (eqb (k .next) 0) firstNumber (k .next)) → (used ≡ fileStep r f .state .used) × Known (fileStep r f .state) k′
   unfolding fileStep numberGiven
   granted-next used k′ h moved same more =
       let none : fileRefusal r f ≡ 0 = sym said ∙ h in
@@ -132,7 +132,7 @@ module _ (r : Register) (f : Filing) (k : Scanned) (known : Known r k) (a : File
         moved ∙ ap (λ (x : Filed). x .used) (answered ∙ answer-granted (fileRefusal r f) _ none),
         record {
           checked = same ∙ sound ∙ sym (after .checked);
-          numbered = λ _. more ∙ ap (λ (n : ℕ). cond (eqb n 0) firstNumber n + 1) (known .numbered sound) ∙ sym (after .next);
+          numbered = λ _. more ∙ ap (λ (n : ℕ). following (cond (eqb n 0) firstNumber n)) (known .numbered sound) ∙ sym (after .next);
         },
       )
 

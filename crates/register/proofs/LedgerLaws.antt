@@ -14,7 +14,7 @@ use Rattle.split.specs.Refusal.{refusalOf}
 use Rattle.split.proofs.QuoteLaws.{quote-best}
 use Rattle.register.specs.Line.{lineFor}
 use Rattle.register.specs.Layout.{lineLayout, lineLength, bytesOf, usedBy}
-use Rattle.register.specs.Check.{numberAfter, nextNumber, checkLinesBy, badUsed, checkLines}
+use Rattle.register.specs.Check.{following, numberAfter, nextNumber, checkLinesBy, badUsed, checkLines}
 use Rattle.register.specs.File.{Filing, filing, firstNumber, numberGiven}
 use Rattle.register.specs.Ledger.{Ledger, emptyLedger, ledgerRefusal, entered, ledgerAfter, LineClaim}
 use Rattle.register.proofs.LineLaws.{line-length, number-back, figures-back, total-back, lumps-back}
@@ -89,6 +89,7 @@ unfolding numberGiven numberAfter
 booked-empty = record { count = refl; next = refl; lines = λ k h. absurd (omega arith) }
 
 pub booked-after : (buffer : ℕ) (b : Ledger) (f : Filing) → Booked b → Booked (ledgerAfter buffer b f)
+unfolding following
 booked-after buffer b f booked =
     entered-by Booked buffer b f (λ refused. booked)
     (λ none.
@@ -99,7 +100,7 @@ booked-after buffer b f booked =
     record {
       count = simp length-append (omega (arith, booked .count));
       next =
-          given-known (b .lines ++ (l ∷ [])) (n + 1) (given-next (b .lines) (f .line) low) (omega arith)
+          given-known (b .lines ++ (l ∷ [])) (following n) (given-next (b .lines) (f .line) low) (omega arith)
           ∙ simp length-append (omega (arith, booked .next));
       lines = λ k h.
           elim (decLt k (length (b .granted))) [

@@ -13,7 +13,7 @@ use Rattle.register.specs.declared.answers.Checked.{Checked}
 use Rattle.register.specs.declared.answers.Filed.{Filed}
 use Rattle.register.specs.Line.{lineFor}
 use Rattle.register.specs.Layout.{Register, lineLayout, bytesOf, usedBy, usedLines}
-use Rattle.register.specs.Check.{nextNumber, checkBy, checkLines, checkOf}
+use Rattle.register.specs.Check.{following, nextNumber, checkBy, checkLines, checkOf}
 use Rattle.register.specs.Steps.{Step, runs}
 use Rattle.register.specs.File.{Filing, numberGiven, fileRefusal, filedAnswer, textFiled, grown, fileStep, fileRun}
 use Rattle.register.specs.Ledger.{Ledger, entered, ledgerRefusal, ledgerAfter, ledgerStep}
@@ -113,10 +113,10 @@ file-sound r f none =
     eqb-true (checkOf r .refusal) 0
     (not-false (eqb (checkOf r .refusal) 0) (refusal-none f _ (length (r .bytes)) (r .used) (usedLines r) none .sound))
 
--- and is sound with its line, behind which the next number is one more than the one given
+-- and is sound with its line, behind which the next number follows the one given
 pub record StaysSound (number : ℕ) (after : Register) : Type 0 where
   pub checked : checkOf after .refusal ≡ 0
-  pub next : nextNumber (usedLines after) ≡ number + 1
+  pub next : nextNumber (usedLines after) ≡ following number
 
 shown-sound : (g : List ℕ) (b : Ledger) (f : Filing) → Held (length g) b → fileRefusal (shown g b) f ≡ 0
     → StaysSound (numberGiven (usedLines (shown g b))) (fileStep (shown g b) f .state)
@@ -132,7 +132,7 @@ shown-sound g b f held none =
       checked = ap (λ (x : Checked). x .refusal) (shown-check g (ledgerAfter (length g) b f) held′) ∙ held′ .sound;
       next =
           ap nextNumber (shown-lines g (ledgerAfter (length g) b f) held′)
-          ∙ entered-only (λ (x : Ledger). nextNumber (x .lines) ≡ numberGiven (b .lines) + 1) (length g) b f given
+          ∙ entered-only (λ (x : Ledger). nextNumber (x .lines) ≡ following (numberGiven (b .lines))) (length g) b f given
           (given-next (b .lines) (f .line) (given-low (b .lines) (ledger-granted (length g) b f given .free)));
     })
 

@@ -10,16 +10,20 @@ use Rattle.register.specs.declared.answers.Checked.{Checked}
 use Rattle.register.specs.Line.{figureWidth, numberIn}
 use Rattle.register.specs.Layout.{Register, Layout, lengthOf, usedLinesBy, lineLayout}
 
+-- "Numbers rise by one": the number that follows another
+unfoldable pub following : ℕ → ℕ
+following n = n + 1
+
 -- the number that a line after these must have, where the first of them had to have the expected one; 0 stands for any from 1
 unfoldable pub numberAfter : ℕ → List (List ℕ) → ℕ
 numberAfter expected [] = expected
-numberAfter expected (l ∷ ls) = numberAfter (numberIn l + 1) ls
+numberAfter expected (l ∷ ls) = numberAfter (following (numberIn l)) ls
 
 -- the number that a next line must have: the last plus one, and 0 where there is no line
 abbrev pub nextNumber : List (List ℕ) → ℕ
 nextNumber ls = numberAfter 0 ls
 
--- "Numbers rise by one; the first may be any from 1"
+-- "Numbers rise by one; the first may be any from 1": a number is not the expected one
 unfoldable pub wrongNumber : ℕ → ℕ → Bool
 wrongNumber expected number = cond (eqb expected 0) (eqb number 0) (not (eqb number expected))
 
@@ -56,7 +60,7 @@ checkLinesBy y expected at [] = sound
 checkLinesBy y expected at (l ∷ ls) =
     cond (ltb (lineFault y expected l) (lengthOf y))
     (unsound (at + lineFault y expected l))
-    (checkLinesBy y (numberIn l + 1) (at + lengthOf y) ls)
+    (checkLinesBy y (following (numberIn l)) (at + lengthOf y) ls)
 
 -- "Used length above the buffer, no multiple of 121"
 unfoldable pub badUsedBy : Layout → ℕ → ℕ → Bool

@@ -5,13 +5,13 @@ use crate::layout::LINE_LENGTH;
 use crate::layout::TEXT_LENGTH;
 ghost use mathlib.Core.Path.{_≡_};
 ghost use mathlib.Core.Bool.{cond, not, _&&_};
-ghost use Prim.Native.Nat.{_≤_, _%_};
+ghost use Prim.Native.Nat.{_%_, _≤_, _<_};
 ghost use lib.Dec.{ltb, eqb};
 ghost use lib.ListN.{length, getD, take};
 ghost use Rattle.split.specs.Frame.{noDigit, badCharacter};
 ghost use Rattle.register.specs.Line.{textLength};
 ghost use Rattle.register.specs.Layout.{lent, lineLength, usedLines};
-ghost use Rattle.register.specs.Check.{wrongNumber, badUsed, checkLines, checkOf};
+ghost use Rattle.register.specs.Check.{following, wrongNumber, badUsed, checkLines, checkOf};
 ghost use Rattle.register.specs.Scan.{ScannedAs};
 
 // What going along a register finds: the check's refusal and offset, and where there is none the number that a next line
@@ -48,6 +48,14 @@ fn has_layout(line: &[u8]) -> bool
     ensures { λ r. ⌜ r ≡ (not (badCharacter (take textLength (now (line .entry)))) && eqb (getD (now (line .entry)) textLength 0) 10) ⌝ }
 {
     !split::has_bad_character(&line[0..TEXT_LENGTH]) & (line[TEXT_LENGTH] == b'\n')
+}
+
+// The number that follows another.
+pub fn following_number(number: u64) -> u64
+    requires { ⌜ number < 8589934592 ⌝ }
+    ensures { λ r. ⌜ r ≡ following number ⌝ }
+{
+    number + 1
 }
 
 // Whether a line has another number than expected; 0 is expected before the first, which may have any from 1.
@@ -94,7 +102,7 @@ fn scan_lines(register: &[u8], used: usize) -> Scanned
                 }
             }
         }
-        expected = number as u64 + 1;
+        expected = following_number(number as u64);
         at += LINE_LENGTH;
     }
 }

@@ -105,7 +105,8 @@ pub fn file_lines(register: &mut [u8], used: usize, lines: &[u8], refusals: &mut
         }
         if filed.refusal == 0 {
             filled = filed.used;
-            known.next = number_given(known.next) + 1;
+            let number = number_given(known.next);
+            known.next = checking::following_number(number);
         }
         count += 1;
         at = end + 1;

@@ -64,7 +64,7 @@ add-unsound : tie.Need-add-unsound Inv-loop μ-loop Inv-lines μ-lines
 add-unsound c = omega (arith, inside (c .before .before .before .before .before .before .before .before .before .before .before))
 
 add-at : tie.Need-add-at Inv-loop μ-loop Inv-lines μ-lines
-add-at c = omega (arith, inside (c .before .before .before .before .before))
+add-at c = omega (arith, inside (c .before .before .before .before .before .before))
 
 -- the test of the number is the definition's of the line's
 tested : (c : tie.After-is-wrong-number Inv-loop μ-loop Inv-lines μ-lines)
@@ -93,21 +93,23 @@ loop-again c =
 lines-again : tie.Need-lines-again Inv-loop μ-loop Inv-lines μ-lines
 unfolding textLength
 lines-again c =
-    let w = c .before .before .before in
+    let j = c .before in
+    let w = j .before .before .before in
     let n = w .before in
     let l = n .before .before in
     let s = l .before .before .args .register .now in
-    ⊎-elim
+    rw (c .following-number .ensures)
+    (⊎-elim
     (λ b.
     let all : b .1 .place ≡ 121 = omega arith in
     left-on lineLayout number-inside s (l .lines .inv) (n .before .if1 .left) (n .number-at .result) (n .number-at .ensures)
     (rw all at (b .1 .inv .1)) (tested w ∙ b .1 .inv .2 (omega arith)) refl)
     (λ b.
     left-on lineLayout number-inside s (l .lines .inv) (n .before .if1 .left) (n .number-at .result) (n .number-at .ensures)
-    (good-whole lineLayout number-inside s (l .lines .at) (c .before .has-layout .result) (omega (arith, inside (n .before))) (c .before .has-layout .ensures)
-    (not-false _ (or-right (w .is-wrong-number .result) (not (c .before .has-layout .result)) (b .left))))
-    (tested w ∙ or-left (w .is-wrong-number .result) (not (c .before .has-layout .result)) (b .left)) refl)
-    (c .if2 .came)
+    (good-whole lineLayout number-inside s (l .lines .at) (j .before .has-layout .result) (omega (arith, inside (n .before))) (j .before .has-layout .ensures)
+    (not-false _ (or-right (w .is-wrong-number .result) (not (j .before .has-layout .result)) (b .left))))
+    (tested w ∙ or-left (w .is-wrong-number .result) (not (j .before .has-layout .result)) (b .left)) refl)
+    (j .if2 .came))
 
 returns : tie.Need-returns Inv-loop μ-loop Inv-lines μ-lines
 returns c =

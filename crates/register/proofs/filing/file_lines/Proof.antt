@@ -1,5 +1,5 @@
 -- `file_lines` keeps that the lines passed have been filed (`Passed`), so that at the text's end all are.
-use Prim.Native.Nat.{ℕ, _≤_, _-_, _+_}
+use Prim.Native.Nat.{_≤_, _-_, _+_}
 use mathlib.Core.Path.{_≡_, refl, _∙_, ap}
 use mathlib.Core.Logic.{⊎-elim}
 use native.Mathlib.Omega.{arith}
@@ -8,6 +8,7 @@ use borrow.Author.Needs.{needs}
 use Rattle.register.specs.declared.answers.Filed.{Filed}
 use Rattle.register.specs.declared.checking.Scanned.{Scanned}
 use Rattle.register.specs.Layout.{lent}
+use Rattle.register.specs.Check.{following}
 use Rattle.register.proofs.TextLaws.{refusals-next, refusals-past}
 use Rattle.register.proofs.FileLaws.{number-fits}
 use Rattle.register.proofs.FileLoop.{scan-known, granted-low, granted-next, refused-next, Passed, passed-none, passed-size, passed-all, passed-next}
@@ -28,12 +29,12 @@ loop-holds c = (omega arith, omega arith, refl, passed-none _ _ _ _ (scan-known 
 file-known-requires : tie.Need-file-known-requires Inv-loop μ-loop
 file-known-requires c κs = c .before .before .before .before .loop .inv .3 .known
 
-add-known : tie.Need-add-known Inv-loop μ-loop
-add-known c =
+following-number-requires : tie.Need-following-number-requires Inv-loop μ-loop
+following-number-requires c κs =
     let l = c .before .before .before .before .before .before .before .before .before .before .before .loop in
     let filed = c .before .before .before .before .before .before .file-known in
     let low = granted-low _ _ _ (l .inv .3 .known) (filed .result) (filed .ensures .0) (c .before .if2 .taken) in
-    omega (arith, c .number-given .ensures, number-fits (l .known .next) 4294967297 (omega arith) (omega arith))
+    omega (arith, c .number-given .ensures, number-fits (l .known .next) 8589934592 (omega arith) low)
 
 loop-again : tie.Need-loop-again Inv-loop μ-loop
 loop-again c =
@@ -47,9 +48,9 @@ loop-again c =
       passed-next p (cut .result) (c .before .before .before .before .before .before .before .before .before .loop-test .taken) (cut .ensures) _ _ _ _ _ (filed .ensures .1)
           (⊎-elim
           (λ w.
-          granted-next _ _ _ (p .known) (filed .result) (filed .ensures .0) _ _ (w .0 .taken) (w .3)
-          (ap (λ (k : Scanned). k .refusal) (w .2))
-          (ap (λ (k : Scanned). k .next) (w .2) ∙ ap (λ (n : ℕ). n + 1) (w .1 .ensures)))
+          granted-next _ _ _ (p .known) (filed .result) (filed .ensures .0) _ _ (w .0 .taken) (w .4)
+          (ap (λ (k : Scanned). k .refusal) (w .3))
+          (ap (λ (k : Scanned). k .next) (w .3) ∙ w .2 .ensures ∙ ap following (w .1 .ensures)))
           (λ w. refused-next _ _ _ (p .known) (filed .result) (filed .ensures .0) _ _ (w .0 .left) (w .2) (w .1))
           (c .if2 .came))
           (⊎-elim
@@ -71,5 +72,5 @@ pub file-lines-spec : {M : Type 1} → statement M
 file-lines-spec =
     tie.close
     (tie.spec Inv-loop μ-loop (search needs) loop-holds (search needs) (search needs) (search needs) (search needs)
-    file-known-requires (search needs) (search needs) add-known (search needs) (search needs) (search needs) loop-again
+    file-known-requires (search needs) (search needs) following-number-requires (search needs) (search needs) (search needs) loop-again
     (search needs) same-length-2 returns)
