@@ -1,6 +1,6 @@
 -- `scan_lines` finds what the check of the lines finds: the lines from `at` on answer for all; a line that passes the tests of its
 -- number and of all its characters has no fault, and of any other the characters before `place` are good.
-use Prim.Native.Nat.{_+_, _-_, _≤_, _<_}
+use Prim.Native.Nat.{ℕ, _+_, _-_, _≤_, _<_}
 use mathlib.Core.Bool.{false, not}
 use mathlib.Core.Path.{_≡_, refl, sym, _∙_, ap}
 use mathlib.Core.Logic.{⊎-elim}
@@ -20,12 +20,16 @@ use Rattle.register.proofs.CheckLoop.{right-next, good-more, good-whole
 use Rattle.register.proofs.checking.scan_lines.Statement.{statement}
 use Rattle.register.proofs.checking.scan_lines.Tie as tie
 
+-- a line's length as the code has it
+abbrev lineSize : ℕ
+lineSize = 121
+
 abbrev Inv-loop : tie.InvT-loop
 Inv-loop register used at expected number wrong whole place₀ place =
-    (place ≤ 121) × Good lineLayout (lineAt lineLayout register at) place × (figureWidth < place → wrong ≡ false)
+    (place ≤ lineSize) × Good lineLayout (lineAt lineLayout register at) place × (figureWidth < place → wrong ≡ false)
 
 abbrev μ-loop : tie.MeasureT-loop
-μ-loop register used at expected number wrong whole place₀ place = 121 - place
+μ-loop register used at expected number wrong whole place₀ place = lineSize - place
 
 abbrev Inv-lines : tie.InvT-lines
 Inv-lines register used at₀ expected₀ at expected = Left lineLayout number-inside register used at expected
@@ -34,7 +38,7 @@ abbrev μ-lines : tie.MeasureT-lines
 μ-lines register used at₀ expected₀ at expected = used - at
 
 -- a whole line is left
-inside : (c : tie.Else1 Inv-loop μ-loop Inv-lines μ-lines) → c .before .lines .at + 121 ≤ c .before .before .before .args .used
+inside : (c : tie.Else1 Inv-loop μ-loop Inv-lines μ-lines) → c .before .lines .at + lineSize ≤ c .before .before .before .args .used
 unfolding textLength
 inside c = left-inside lineLayout number-inside _ (c .before .lines .inv) (c .if1 .left)
 
@@ -101,7 +105,7 @@ lines-again c =
     rw (c .following-number .ensures)
     (⊎-elim
     (λ b.
-    let all : b .1 .place ≡ 121 = omega arith in
+    let all : b .1 .place ≡ lineSize = omega arith in
     left-on lineLayout number-inside s (l .lines .inv) (n .before .if1 .left) (n .number-at .result) (n .number-at .ensures)
     (rw all at (b .1 .inv .1)) (tested w ∙ b .1 .inv .2 (omega arith)) refl)
     (λ b.
