@@ -124,12 +124,6 @@ worked-at-most h p = go (eqb (p .kind) 3 && ltb (ageOf h) 720)
     go true = reduced-at-most (p .stated .0) left
     go false = omega arith
 
--- a stated pension is at most their total
-pub stated-at-most : (ps : List Pension) (j : ℕ) → j < length ps → (getD ps j noPension) .stated .0 ≤ totalStated ps
-stated-at-most [] j h = omega arith
-stated-at-most (p ∷ ps) zero h = omega arith
-stated-at-most (p ∷ ps) (suc j) h = omega (arith, stated-at-most ps j (omega arith))
-
 -- the pensions after the first are accepted too
 pub accepted-rest : {h : Head} {p : Pension} {ps : List Pension} → Accepted h (p ∷ ps) → Accepted h ps
 accepted-rest a = record {

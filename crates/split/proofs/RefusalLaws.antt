@@ -115,10 +115,6 @@ conditions-total h ps =
     ap (λ (bs : List Bool). lowest 3 bs) (conditions-either h ps) ∙
     lowest-either 2 (partly h ps) (above (ltb 50000000 (totalStated ps))) refl
 
-pub total-more : (ps : List Pension) (p : Pension) → totalStated (ps ++ (p ∷ [])) ≡ totalStated ps + p .stated .0
-total-more [] p = omega arith
-total-more (q ∷ ps) p = omega (arith, total-more ps p)
-
 -- the conditions of a pension, the later ones together
 pub pension-lowest : (h : Head) (p : Pension) (age : ℕ) → age ≡ ageOf h → lowest 3 (pensionConditions h p)
     ≡ cond (undated p) 3
@@ -133,11 +129,6 @@ pub partly-next : (h : Head) (l : List Pension) (i r a b : ℕ) → i < length l
 partly-next h l i r a b place x y e =
     e ∙ ap₂ lower x y ∙ sym (ap (λ (ps : List Pension). lowest 3 (partly h ps)) (take-next l i noPension place)
     ∙ partly-more h (take i l) (getD l i noPension))
-
--- and what it adds to the total
-pub total-next : (l : List Pension) (i t : ℕ) → i < length l → t ≡ totalStated (take i l)
-    → t + (getD l i noPension) .stated .0 ≡ totalStated (take (i + 1) l)
-total-next l i t place e = rw (take-next l i noPension place, total-more, e)
 
 -- after the loop, a total above the limit counts as one more condition
 pub total-above : (h : Head) (ps : List Pension) (t a r : ℕ) → t ≡ totalStated ps → a ≡ lowest 3 (partly h ps) → 50000000 < t

@@ -8,6 +8,7 @@ use native.Mathlib.Omega.{arith}
 use lib.Dec.{leb, eqb}
 use lib.ListN.{length, getD, set}
 use borrow.Author.Tests.{leb-true, leb-false, eqb-true, eqb-false}
+use Rattle.calendar.specs.Sums.{sumOf}
 use Rattle.split.specs.declared.limits.Benefit.{Benefit}
 use Rattle.split.specs.declared.grant.Row.{Row}
 use Rattle.split.specs.Grant.{noRow, rowOf, served, cheapest}
@@ -19,11 +20,6 @@ rowAt rs i = getD rs i noRow
 -- the rows when the one at a place has been given g
 abbrev pub serve : List Row → ℕ → ℕ → List Row
 serve rs i g = set rs i (served (rowAt rs i) g)
-
--- the sum of a number of each row
-abbrev pub sumOf : (Row → ℕ) → List Row → ℕ
-sumOf f [] = 0
-sumOf f (r ∷ rs) = f r + sumOf f rs
 
 -- a row replaced: its number leaves the sum, and the new row's comes in
 pub sum-set : (f : Row → ℕ) (rs : List Row) (i : ℕ) (r : Row) → i < length rs

@@ -2,14 +2,16 @@
 -- range. A cap is at most a quarter's lump, so that a lump gives up no more than the pension. Assumes nothing.
 use Prim.Native.Nat.{ℕ, zero, suc, _+_, _-_, _*_, _/_, _≤_, _<_}
 use mathlib.Core.Bool.{Bool, true, false, cond, not, _&&_}
-use mathlib.Core.List.{List, [], _∷_, _++_, map, append-assoc}
+use mathlib.Core.List.{List, [], _∷_, _++_, map, map-append, append-assoc}
 use mathlib.Core.Path.{_≡_, refl, sym, _∙_, ap}
 use native.Mathlib.Nat.{div-le-of-le-mul, le-div-iff-mul-le}
 use native.Mathlib.Omega.{arith}
 use lib.Dec.{leb, eqb}
-use lib.ListN.{length, getD, take, set, replicate, length-take}
+use lib.ListN.{length, getD, take, set, replicate, length-take, length-map, List·getD-map}
 use lib.Seq.{getD-take, length-take-le, set-at}
 use borrow.Author.Tests.{eqb-true, not-false}
+use Rattle.calendar.specs.Sums.{sumOf}
+use Rattle.calendar.proofs.SumLaws.{sum-at}
 use Rattle.calendar.proofs.TestLaws.{and-right, within-bounds}
 use Rattle.factors.specs.declared.effective.FactorTerms.{FactorTerms}
 use Rattle.factors.specs.Effective.{FactorRange}
@@ -29,46 +31,13 @@ use Rattle.split.specs.Parts.{ShareRange, SharesRange}
 use Rattle.split.proofs.ListLaws.{take-next}
 use Rattle.split.proofs.Prices.{ring, total-capped}
 use Rattle.split.proofs.Best.{grant-best}
-use Rattle.split.proofs.AcceptedLaws.{AcceptedPension, Accepted, accepted, factor-range, worked-at-most, stated-at-most, accepted-tops, accepted-caps, accepted-pensions}
+use Rattle.split.proofs.AcceptedLaws.{AcceptedPension, Accepted, accepted, factor-range, worked-at-most, accepted-tops, accepted-caps, accepted-pensions}
 use Rattle.split.proofs.LimitLaws.{cap-quarter}
 
--- the lumps of rows: as many, at their places, and one more at the end
-lumps-counted : (rs : List Row) → length (lumpsOf rs) ≡ length rs
-lumps-counted [] = refl
-lumps-counted (r ∷ rs) = ap suc (lumps-counted rs)
-
-lumps-at : (rs : List Row) (j : ℕ) → getD (lumpsOf rs) j 0 ≡ (getD rs j noRow) .lump .0
-lumps-at [] j = refl
-lumps-at (r ∷ rs) zero = refl
-lumps-at (r ∷ rs) (suc j) = lumps-at rs j
-
-lumps-more : (rs : List Row) (r : Row) → lumpsOf (rs ++ (r ∷ [])) ≡ lumpsOf rs ++ (r .lump .0 ∷ [])
-lumps-more [] r = refl
-lumps-more (q ∷ rs) r = ap (λ (l : List ℕ). q .lump .0 ∷ l) (lumps-more rs r)
-
--- their sum with one more, at most the whole sum
-total-more : (rs : List Row) (r : Row) → total (lumpsOf (rs ++ (r ∷ []))) ≡ total (lumpsOf rs) + r .lump .0
-total-more [] r = omega arith
-total-more (q ∷ rs) r = omega (arith, total-more rs r)
-
-pub total-next : (rs : List Row) (i t : ℕ) → i < length rs → t ≡ total (lumpsOf (take i rs))
-    → t + (getD rs i noRow) .lump .0 ≡ total (lumpsOf (take (i + 1) rs))
-total-next rs i t place e = rw (take-next rs i noRow place, total-more (take i rs) (getD rs i noRow), e)
-
-total-part : (rs : List Row) (i n : ℕ) → i ≤ n → total (lumpsOf (take i rs)) ≤ total (lumpsOf (take n rs))
-total-part rs zero n h = omega arith
-total-part rs (suc i) zero h = absurd (omega arith)
-total-part [] (suc i) (suc n) h = omega arith
-total-part (r ∷ rs) (suc i) (suc n) h = omega (arith, total-part rs i n (omega arith))
-
-pub total-within : (rs : List Row) (i n t : ℕ) → i < length rs → i < n → t ≡ total (lumpsOf (take i rs))
-    → t + (getD rs i noRow) .lump .0 ≤ total (lumpsOf (take n rs))
-total-within rs i n t place h e = omega (arith, total-next rs i t place e, total-part rs (i + 1) n (omega arith))
-
-total-at : (xs : List ℕ) (j : ℕ) → getD xs j 0 ≤ total xs
-total-at [] j = omega arith
-total-at (x ∷ xs) zero = omega arith
-total-at (x ∷ xs) (suc j) = omega (arith, total-at xs j)
+-- the total of lumps is the sum over their rows
+pub lumps-total : (rs : List Row) → total (lumpsOf rs) ≡ sumOf (λ r. r .lump .0) rs
+lumps-total [] = refl
+lumps-total (r ∷ rs) = omega (arith, lumps-total rs)
 
 -- the shares of pensions with a lump each: as many, and one more at the end
 pub shares-counted : (h : Head) (ps : List Pension) (xs : List ℕ) → length xs ≡ length ps
@@ -95,7 +64,7 @@ store-next xs n i x z counted h =
 -- as many lumps as pensions in the first places
 parts-counted : (ps : List Pension) (rs : List Row) (n : ℕ) → length ps ≡ 4 → length rs ≡ 4
     → length (lumpsOf (take n rs)) ≡ length (take n ps)
-parts-counted ps rs n four rows = rw (lumps-counted (take n rs), length-take n rs, length-take n ps, four, rows)
+parts-counted ps rs n four rows = rw (length-map, length-take n rs, length-take n ps, four, rows)
 
 part-shares : (h : Head) (ps : List Pension) (rs : List Row) (n : ℕ) → length ps ≡ 4 → length rs ≡ 4 → n ≤ 4
     → length (sharesOf h (take n ps) (lumpsOf (take n rs))) ≡ n
@@ -114,7 +83,7 @@ shares-next h ps rs i share shares four rows place e made =
     let r = getD rs i noRow in
     let longer : sharesOf h (take (i + 1) ps) (lumpsOf (take (i + 1) rs))
     ≡ sharesOf h (take i ps) (lumpsOf (take i rs)) ++ (shareOf h p (r .lump .0) ∷ []) =
-    rw (take-next ps i noPension (omega arith), take-next rs i noRow (omega arith), lumps-more (take i rs) r)
+    rw (take-next ps i noPension (omega arith), take-next rs i noRow (omega arith), map-append)
     (shares-more h (take i ps) (lumpsOf (take i rs)) p (r .lump .0) (parts-counted ps rs i four rows))
     in
     rw (longer, e, made)
@@ -220,7 +189,8 @@ module _ (h : Head) (ps : List Pension) (n : ℕ) (few : n ≤ 4) (four : length
 
   stated-small : (j : ℕ) → j < n → (getD ps j noPension) .stated .0 ≤ 50000000
   stated-small j place =
-      rw (← getD-take n ps j noPension place) (omega (arith, stated-at-most (take n ps) j (rw counted place), taken .sum))
+      rw (← getD-take n ps j noPension place)
+      (omega (arith, sum-at (λ (p : Pension). p .stated .0) (take n ps) noPension j (rw counted place), taken .sum))
 
   pub benefits-in-range : (j : ℕ) → j < n
       → (workedPension h (getD ps j noPension) ≤ 50000000) × FactorRange (factorOf (ageOf h) (getD ps j noPension))
@@ -242,6 +212,12 @@ module _ (h : Head) (ps : List Pension) (n : ℕ) (few : n ≤ 4) (four : length
     caps-small : totalCap (take n bs) ≤ 1000000000
     caps-small = rw worked (accepted-caps h (take n ps) taken)
 
+    cap-small : (j : ℕ) → j < n → (getD bs j noBenefit) .cap .0 ≤ 1000000000
+    cap-small j place =
+        let inside : j < length (take n bs) = rw (worked, length-map, counted) place in
+        rw (← getD-take n bs j noBenefit place)
+        (omega (arith, sum-at (λ (b : Benefit). b .cap .0) (take n bs) noBenefit j inside, caps-small))
+
     -- and the lumps granted
     module _ (rs : List Row) (granted : lumpsOf (take n rs) ≡ grant (take n bs)) where
       within-caps : WithinCaps (take n bs) (lumpsOf (take n rs))
@@ -254,7 +230,7 @@ module _ (h : Head) (ps : List Pension) (n : ℕ) (few : n ≤ 4) (four : length
       lumps-small = omega (arith, total-capped (take n bs) (lumpsOf (take n rs)) within-caps, caps-small)
 
       lump-at : (j : ℕ) → j < n → getD (lumpsOf (take n rs)) j 0 ≡ (getD rs j noRow) .lump .0
-      lump-at j place = lumps-at (take n rs) j ∙ ap (λ (r : Row). r .lump .0) (getD-take n rs j noRow place)
+      lump-at j place = List·getD-map (λ (r : Row). r .lump .0) (take n rs) j noRow ∙ ap (λ (r : Row). r .lump .0) (getD-take n rs j noRow place)
 
       capped-at : (j : ℕ) → j < n → (getD rs j noRow) .lump .0 ≤ (getD bs j noBenefit) .cap .0
       capped-at j place =
@@ -266,7 +242,7 @@ module _ (h : Head) (ps : List Pension) (n : ℕ) (few : n ≤ 4) (four : length
           let same = benefit-at h ps bs n j (omega arith) place worked in
           rw same
           (share-range h (getD ps j noPension) (taken-at j place) ((getD rs j noRow) .lump .0)
-          (omega (arith, lump-at j place, total-at (lumpsOf (take n rs)) j, lumps-small))
+          (omega (arith, capped-at j place, cap-small j place))
           (rw same at (capped-at j place)))
 
       pub shares-range : SharesRange h ps bs rs n

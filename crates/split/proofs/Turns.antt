@@ -10,11 +10,12 @@ use native.Mathlib.Omega.{arith}
 use lib.Dec.{ltb}
 use lib.ListN.{length}
 use borrow.Author.Tests.{ltb-true, ltb-false}
+use Rattle.calendar.specs.Sums.{sumOf}
 use Rattle.split.specs.declared.limits.Benefit.{Benefit}
 use Rattle.split.specs.declared.grant.Row.{Row}
 use Rattle.split.specs.Limits.{pricedLimit}
 use Rattle.split.specs.Grant.{rowOf, cheapest, most, turns}
-use Rattle.split.proofs.Rows.{rowAt, serve, sumOf, cheapest-lowest}
+use Rattle.split.proofs.Rows.{rowAt, serve, cheapest-lowest}
 use Rattle.split.proofs.Served.{waits, waits-start, waits-counted, waits-serve}
 use Rattle.split.proofs.Level.{State, state-start, state-serve, Settled, settle}
 

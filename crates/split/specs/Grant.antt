@@ -45,8 +45,7 @@ turns (suc n) rs left =
 
 -- the lumps of rows
 abbrev pub lumpsOf : List Row → List ℕ
-lumpsOf [] = []
-lumpsOf (r ∷ rs) = r .lump .0 ∷ lumpsOf rs
+lumpsOf rs = map (λ r. r .lump .0) rs
 
 -- the lumps granted, in line order: as many turns as there are pensions
 unfoldable pub grant : List Benefit → List ℕ

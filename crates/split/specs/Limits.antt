@@ -2,6 +2,7 @@
 -- over the pensions of a case, as many as there are. A split is a list of natural numbers. Assumes nothing.
 use Prim.Native.Nat.{ℕ, _+_, _-_, _*_, _/_, _≤_}
 use mathlib.Core.List.{List, [], _∷_}
+use Rattle.calendar.specs.Sums.{sumOf}
 use Rattle.factors.specs.declared.effective.Factor.{Factor}
 use Rattle.split.specs.declared.limits.Benefit.{Benefit}
 
@@ -12,8 +13,7 @@ noBenefit =
 
 -- "its total is their sum"
 abbrev pub total : List ℕ → ℕ
-total [] = 0
-total (x ∷ xs) = x + total xs
+total xs = sumOf (λ x. x) xs
 
 -- "Price of one penny of lump, in billionths: 3,000,000,000 plus 20,000,000,000/E rounded up"
 unfoldable pub priceOf : Factor → ℕ
@@ -21,13 +21,11 @@ priceOf e = 3000000000 + (20000000000 * e .bottom + (e .top - 1)) / e .top
 
 -- the sum of P over the pensions of the case
 abbrev pub totalPension : List Benefit → ℕ
-totalPension [] = 0
-totalPension (b ∷ bs) = b .pension .0 + totalPension bs
+totalPension bs = sumOf (λ b. b .pension .0) bs
 
 -- the sum of the caps, which no split within them exceeds
 abbrev pub totalCap : List Benefit → ℕ
-totalCap [] = 0
-totalCap (b ∷ bs) = b .cap .0 + totalCap bs
+totalCap bs = sumOf (λ b. b .cap .0) bs
 
 -- "A split gives each pension of the case, and no other, a lump": one number a pension, each at most its cap
 abbrev pub WithinCaps : List Benefit → List ℕ → Type 0

@@ -6,11 +6,12 @@ use mathlib.Core.List.{List, [], _∷_}
 use lib.Dec.{leb, ltb, eqb}
 use lib.ListN.{length}
 use Rattle.calendar.specs.Calendar.{inCalendar, earlier, months}
+use Rattle.calendar.specs.Sums.{sumOf}
+use Rattle.calendar.specs.Tests.{any, within, lowest}
 use Rattle.factors.specs.declared.effective.FactorTerms.{FactorTerms}
 use Rattle.split.specs.declared.case.Head.{Head}
 use Rattle.split.specs.declared.case.Pension.{Pension}
 use Rattle.split.specs.Frame.{badCharacter}
-use Rattle.calendar.specs.Tests.{any, within, lowest}
 use Rattle.split.specs.Case.{headOf, pensionsOf}
 
 -- "Age is months from birth to commencement"
@@ -77,8 +78,7 @@ unfoldable pub unstated : Pension → Bool
 unstated p = eqb (p .stated .0) 0
 
 abbrev pub totalStated : List Pension → ℕ
-totalStated [] = 0
-totalStated (p ∷ ps) = p .stated .0 + totalStated ps
+totalStated ps = sumOf (λ p. p .stated .0) ps
 
 -- conditions 3 to 10 of a case, in their order
 unfoldable pub conditions : Head → List Pension → List Bool

@@ -9,8 +9,11 @@ use borrow.Author.Needs.{needs}
 use mir.Facts.{fits-below}
 use Rattle.split.specs.Refusal.{ageOf, totalStated}
 use Rattle.calendar.specs.Tests.{lowest}
+use Rattle.calendar.proofs.SumLaws.{sum-next}
+use Rattle.split.specs.declared.case.Pension.{Pension}
+use Rattle.split.specs.Case.{noPension}
 use Rattle.split.proofs.ListLaws.{up-to, fewer, at-end}
-use Rattle.split.proofs.RefusalLaws.{partly, partly-start, partly-next, total-next, total-above, total-within}
+use Rattle.split.proofs.RefusalLaws.{partly, partly-start, partly-next, total-above, total-within}
 use Rattle.split.proofs.refusal.case_refusal.Statement.{statement}
 use Rattle.split.proofs.refusal.case_refusal.Tie as tie
 
@@ -49,7 +52,7 @@ loop-again c =
       add-one-le (test .loop-test .taken),
       partly-next (start .args .head) (start .args .t2) (loop .i) _ _ _ pension (loop .inv .1)
           (c .before .before .pension-refusal .ensures) (c .before .lower-of .ensures),
-      total-next (start .args .t2) (loop .i) (loop .total) pension (loop .inv .2),
+      sum-next (λ (p : Pension). p .stated .0) (start .args .t2) noPension (loop .i) (loop .total) pension (loop .inv .2),
       omega arith,
     )
 
