@@ -7,7 +7,7 @@ use native.Mathlib.Nat
 use native.Mathlib.Omega.{arith}
 use Rattle.factors.specs.declared.effective.Factor.{Factor}
 use Rattle.split.specs.declared.limits.Benefit.{Benefit}
-use Rattle.split.specs.Limits.{total, priceOf, totalCap, WithinCaps, spend, pricedLimit, KeepsPriced, tops, exactCost, KeepsExact, PositiveTops}
+use Rattle.split.specs.Limits.{total, priceOf, totalCap, WithinCaps, spend, pricedLimit, Kept, KeepsPriced, tops, exactCost, KeepsExact, PositiveTops}
 
 pub ruleset ring = (Nat.add-mul, Nat.mul-add, Nat.mul-assoc, Nat.mul-comm, Nat.mul-left-comm)
 
@@ -62,16 +62,22 @@ spend-near (b ∷ bs) (x ∷ xs) =
 
 -- a split that keeps the priced limit keeps the exact one
 pub priced-exact : (bs : List Benefit) (xs : List ℕ) → PositiveTops bs → KeepsPriced bs xs → KeepsExact bs xs
-priced-exact bs xs h k =
-    simp ring (omega (arith, simp ring at (spend-covers bs xs h), simp ring at (Nat.mul-le-mul-left (tops bs) k)))
+priced-exact bs xs h k = record {
+  caps = k .caps;
+  cost =
+      simp ring (omega (arith, simp ring at (spend-covers bs xs h), simp ring at (Nat.mul-le-mul-left (tops bs) (k .spent))));
+}
 
 -- a split that keeps the exact limit is over the priced one by at most its total
 pub exact-priced : (bs : List Benefit) (xs : List ℕ) → PositiveTops bs → KeepsExact bs xs
-    → spend bs xs ≤ pricedLimit bs + total xs
-exact-priced bs xs h k =
-    Nat.le-of-mul-le-mul-right {k = tops bs}
-    (simp ring (omega (arith, simp ring at (spend-near bs xs), simp ring at k)))
-    (tops-positive bs h)
+    → Kept (pricedLimit bs + total xs) bs xs
+exact-priced bs xs h k = record {
+  caps = k .caps;
+  spent =
+      Nat.le-of-mul-le-mul-right {k = tops bs}
+      (simp ring (omega (arith, simp ring at (spend-near bs xs), simp ring at (k .cost))))
+      (tops-positive bs h);
+}
 
 -- a split within the caps has at most their sum for its total
 pub total-capped : (bs : List Benefit) (xs : List ℕ) → WithinCaps bs xs → total xs ≤ totalCap bs

@@ -132,8 +132,8 @@ granted s e =
     record {
       few = count-listed (length s) (h .count) (last .0);
       best = best;
-      small = omega (arith, total-capped (benefitsOf h ps) (lumpsGranted (headOf s) (pensionsOf s)) (best .caps));
-      each = shared h ps (lumpsGranted (headOf s) (pensionsOf s)) a (best .caps);
+      small = omega (arith, total-capped (benefitsOf h ps) (lumpsGranted (headOf s) (pensionsOf s)) (best .priced .caps));
+      each = shared h ps (lumpsGranted (headOf s) (pensionsOf s)) a (best .priced .caps);
     }
 
 -- it has as many shares as pensions are counted

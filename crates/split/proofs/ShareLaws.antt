@@ -224,7 +224,7 @@ module _ (h : Head) (ps : List Pension) (n : ℕ) (few : n ≤ 4) (four : length
       within-caps =
           rw (granted, worked)
           (grant-best (benefitsOf h (take n ps)) (accepted-tops h (take n ps) taken)
-          (omega (arith, accepted-caps h (take n ps) taken)) .caps)
+          (omega (arith, accepted-caps h (take n ps) taken)) .priced .caps)
 
       pub lumps-small : total (lumpsOf (take n rs)) ≤ 1000000000
       lumps-small = omega (arith, total-capped (take n bs) (lumpsOf (take n rs)) within-caps, caps-small)

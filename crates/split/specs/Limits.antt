@@ -44,8 +44,14 @@ spend (b ∷ bs) (x ∷ xs) = x * priceOf (b .factor) + spend bs xs
 abbrev pub pricedLimit : List Benefit → ℕ
 pricedLimit bs = 20000000000 * totalPension bs
 
+-- a split within the caps that spends at most a limit
+pub record Kept (limit : ℕ) (bs : List Benefit) (xs : List ℕ) : Type 0 where
+  pub caps : WithinCaps bs xs
+  pub spent : spend bs xs ≤ limit
+
+-- it keeps the caps and the priced limit
 abbrev pub KeepsPriced : List Benefit → List ℕ → Type 0
-KeepsPriced bs xs = spend bs xs ≤ pricedLimit bs
+KeepsPriced bs xs = Kept (pricedLimit bs) bs xs
 
 -- the product of every top of the case
 abbrev pub tops : List Benefit → ℕ
@@ -60,22 +66,22 @@ exactCost (b ∷ bs) [] = 0
 exactCost (b ∷ bs) (x ∷ xs) =
     x * (3 * b .factor .top + 20 * b .factor .bottom) * tops bs + b .factor .top * exactCost bs xs
 
--- "at most 20 times the sum of P", times every top of the case
-abbrev pub KeepsExact : List Benefit → List ℕ → Type 0
-KeepsExact bs xs = exactCost bs xs ≤ 20 * totalPension bs * tops bs
+-- it keeps the caps and the exact limit, "at most 20 times the sum of P", times every top of the case
+pub record KeepsExact (bs : List Benefit) (xs : List ℕ) : Type 0 where
+  pub caps : WithinCaps bs xs
+  pub cost : exactCost bs xs ≤ 20 * totalPension bs * tops bs
 
 -- every top is positive
 abbrev pub PositiveTops : List Benefit → Type 0
 PositiveTops [] = Unit
 PositiveTops (b ∷ bs) = (1 ≤ b .factor .top) × PositiveTops bs
 
--- What is claimed of a grant: it is a split within the caps, keeps both limits, and no split does better under the
--- priced limit, nor by more than a penny under the exact one. Rivals are all lists of natural numbers.
+-- What is claimed of a grant: it keeps the caps and both limits, and no split does better under the priced limit, nor
+-- by more than a penny under the exact one. Rivals are all lists of natural numbers.
 pub record Best (bs : List Benefit) (xs : List ℕ) : Type 0 where
   -- nothing is lost by multiplying with the tops
   pub tops : PositiveTops bs
-  pub caps : WithinCaps bs xs
   pub priced : KeepsPriced bs xs
   pub exact : KeepsExact bs xs
-  pub best : (ys : List ℕ) → WithinCaps bs ys → KeepsPriced bs ys → total ys ≤ total xs
-  pub nearly : (ys : List ℕ) → WithinCaps bs ys → KeepsExact bs ys → total ys ≤ total xs + 1
+  pub best : (ys : List ℕ) → KeepsPriced bs ys → total ys ≤ total xs
+  pub nearly : (ys : List ℕ) → KeepsExact bs ys → total ys ≤ total xs + 1
