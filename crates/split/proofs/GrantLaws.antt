@@ -12,9 +12,9 @@ use borrow.Author.Tests.{lt-ltb, le-ltb, le-leb, lt-leb, eqb-false, ne-eqb}
 use Rattle.split.specs.declared.limits.Benefit.{Benefit}
 use Rattle.split.specs.declared.grant.Row.{Row}
 use Rattle.split.specs.Limits.{pricedLimit}
-use Rattle.split.specs.Grant.{noRow, rowOf, served, cheapest, most, turns, lumpsOf, grant}
+use Rattle.split.specs.Grant.{noRow, rowOf, served, cheapest, most, turns, lumpsOf, grant, rowAt, serve}
 use Rattle.split.proofs.Prices.{price-floor}
-use Rattle.split.proofs.Rows.{rowAt, serve, cheapest-lowest}
+use Rattle.split.proofs.Rows.{cheapest-lowest}
 
 -- the first row is the cheapest where it waits and none behind it is cheaper
 cheapest-here : (r : Row) (rs : List Row) → r .waiting ≡ true

@@ -6,20 +6,12 @@ use mathlib.Core.List.{List, [], _∷_, map}
 use mathlib.Core.Path.{_≡_, refl, sym, _∙_}
 use native.Mathlib.Omega.{arith}
 use lib.Dec.{leb, eqb}
-use lib.ListN.{length, getD, set}
+use lib.ListN.{length, set}
 use borrow.Author.Tests.{leb-true, leb-false, eqb-true, eqb-false}
 use Rattle.calendar.specs.Sums.{sumOf}
 use Rattle.split.specs.declared.limits.Benefit.{Benefit}
 use Rattle.split.specs.declared.grant.Row.{Row}
-use Rattle.split.specs.Grant.{noRow, rowOf, served, cheapest}
-
--- the row at a place
-abbrev pub rowAt : List Row → ℕ → Row
-rowAt rs i = getD rs i noRow
-
--- the rows when the one at a place has been given g
-abbrev pub serve : List Row → ℕ → ℕ → List Row
-serve rs i g = set rs i (served (rowAt rs i) g)
+use Rattle.split.specs.Grant.{noRow, rowOf, rowAt, cheapest}
 
 -- a row replaced: its number leaves the sum, and the new row's comes in
 pub sum-set : (f : Row → ℕ) (rs : List Row) (i : ℕ) (r : Row) → i < length rs

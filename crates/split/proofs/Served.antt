@@ -12,8 +12,8 @@ use Rattle.calendar.specs.Sums.{sumOf}
 use Rattle.split.specs.declared.limits.Benefit.{Benefit}
 use Rattle.split.specs.declared.grant.Row.{Row}
 use Rattle.split.specs.Limits.{priceOf, pricedLimit}
-use Rattle.split.specs.Grant.{rowOf, served}
-use Rattle.split.proofs.Rows.{rowAt, serve, sum-set, every-set, every-start}
+use Rattle.split.specs.Grant.{rowOf, served, rowAt, serve}
+use Rattle.split.proofs.Rows.{sum-set, every-set, every-start}
 
 -- rows with the prices and caps of pensions
 pub data Matches : List Benefit → List Row → Type 0 where

@@ -17,11 +17,15 @@ noRow = record { price = 0; cap = record { 0 = 0 }; lump = record { 0 = 0 }; wai
 abbrev pub rowOf : Benefit → Row
 rowOf b = record { price = priceOf (b .factor); cap = b .cap; lump = record { 0 = 0 }; waiting = true }
 
+-- the row at a place
+abbrev pub rowAt : List Row → ℕ → Row
+rowAt rs i = getD rs i noRow
+
 -- the place of the first waiting row of the lowest price; the number of rows where none waits
 unfoldable pub cheapest : List Row → ℕ
 cheapest [] = 0
 cheapest (r ∷ rs) =
-    cond (r .waiting && (eqb (cheapest rs) (length rs) || leb (r .price) ((getD rs (cheapest rs) noRow) .price)))
+    cond (r .waiting && (eqb (cheapest rs) (length rs) || leb (r .price) ((rowAt rs (cheapest rs)) .price)))
     0
     (suc (cheapest rs))
 
@@ -33,15 +37,23 @@ most r left = min (r .cap .0) (left / r .price)
 abbrev pub served : Row → ℕ → Row
 served r g = record { price = r .price; cap = r .cap; lump = record { 0 = g }; waiting = false }
 
+-- the rows when the one at a place has had its turn and was given g
+abbrev pub serve : List Row → ℕ → ℕ → List Row
+serve rs i g = set rs i (served (rowAt rs i) g)
+
+-- what the next turn gives, the most that the cheapest waiting row may have
+abbrev pub nextLump : List Row → ℕ → ℕ
+nextLump rs left = most (rowAt rs (cheapest rs)) left
+
+-- and what it leaves of the limit
+abbrev pub nextLeft : List Row → ℕ → ℕ
+nextLeft rs left = left - nextLump rs left * (rowAt rs (cheapest rs)) .price
+
 -- n turns, with what is left of the priced limit: each serves the cheapest row that waits
 unfoldable pub turns : ℕ → List Row → ℕ → List Row
 turns zero rs left = rs
 turns (suc n) rs left =
-    cond (ltb (cheapest rs) (length rs))
-    (turns n
-    (set rs (cheapest rs) (served (getD rs (cheapest rs) noRow) (most (getD rs (cheapest rs) noRow) left)))
-    (left - most (getD rs (cheapest rs) noRow) left * (getD rs (cheapest rs) noRow) .price))
-    rs
+    cond (ltb (cheapest rs) (length rs)) (turns n (serve rs (cheapest rs) (nextLump rs left)) (nextLeft rs left)) rs
 
 -- the lumps of rows
 abbrev pub lumpsOf : List Row → List ℕ

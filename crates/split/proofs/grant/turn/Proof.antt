@@ -4,8 +4,7 @@ use mathlib.Core.Path.{ap}
 use native.Mathlib.Nat.{le-of-lt, mul-le-mul-right}
 use lib.ListN.{set}
 use mir.Facts.{fits-le, fits-below}
-use Rattle.split.specs.Grant.{served}
-use Rattle.split.proofs.Rows.{rowAt}
+use Rattle.split.specs.Grant.{served, rowAt}
 use Rattle.split.proofs.Turns.{most-affordable}
 use Rattle.split.proofs.grant.turn.Statement.{statement}
 use Rattle.split.proofs.grant.turn.Tie as tie
