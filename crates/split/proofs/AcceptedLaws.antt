@@ -20,7 +20,7 @@ use Rattle.split.specs.declared.case.Head.{Head}
 use Rattle.split.specs.declared.case.Pension.{Pension}
 use Rattle.split.specs.Case.{noPension}
 use Rattle.calendar.specs.Tests.{any, lowest, within}
-use Rattle.split.specs.Refusal.{ageOf, undatedHead, undated, disordered, badAge, unknownKind, unlisted, wrongAge, noFactor, unstated, totalStated, conditions, listedF1, noIncrease, listedIncrease}
+use Rattle.split.specs.Refusal.{ageOf, undatedHead, undated, disordered, badAge, unknownKind, unlisted, wrongAge, noFactor, unstated, totalStated, conditions, conditionsWith, listedF1, noIncrease, listedIncrease}
 use Rattle.split.specs.Benefits.{workedPension, workedTerms, factorOf, limitedLump, benefitOf, benefitsOf}
 use Rattle.split.specs.Limits.{PositiveTops, totalCap, totalPension}
 use Rattle.split.proofs.LimitLaws.{quarter-at-most, cap-quarter}
@@ -44,7 +44,7 @@ pub record Accepted (h : Head) (ps : List Pension) : Type 0 where
 
 -- an accepted case has all that they denied
 pub accepted : (h : Head) (ps : List Pension) → lowest 3 (conditions h ps) ≡ 0 → Accepted h ps
-unfolding conditions
+unfolding conditionsWith
 accepted h ps e =
     let none = none-holds 2 (conditions h ps) e in
     record {

@@ -6,15 +6,14 @@ use mathlib.Core.Bool.{Bool, true, false, cond, _||_, or-false, or-assoc}
 use mathlib.Core.Logic.{_⊎_, inl, inr, ⊎-elim}
 use mathlib.Core.List.{List, [], _∷_, _++_}
 use native.Mathlib.Omega.{arith}
-use lib.Dec.{ltb}
 use lib.ListN.{length, getD, take}
 use borrow.Author.Tests.{ne-eqb, lt-ltb, le-ltb}
 use Rattle.split.specs.declared.case.Head.{Head}
 use Rattle.split.specs.declared.case.Pension.{Pension}
 use Rattle.split.specs.Case.{noPension}
-use Rattle.calendar.specs.Tests.{any, lowest}
-use Rattle.split.specs.Refusal.{ageOf, undatedHead, undated, disordered, badAge, unknownKind, unlisted, wrongAge, noFactor, unstated, totalStated, conditions}
-use Rattle.split.specs.Parts.{lower, headConditions, pensionConditions}
+use Rattle.calendar.specs.Tests.{lowest}
+use Rattle.split.specs.Refusal.{ageOf, undated, disordered, unknownKind, totalStated, conditions, conditionsWith}
+use Rattle.split.specs.Conditions.{lower, laterConditions, pensionConditions}
 use Rattle.split.proofs.ListLaws.{take-next}
 use Rattle.calendar.proofs.TestLaws.{any-snoc}
 
@@ -70,73 +69,55 @@ lowest-either k (true ∷ xs) (false ∷ bs) e = sym (lower-first k bs)
 lowest-either k (false ∷ xs) (true ∷ bs) e = sym (lower-last k xs)
 lowest-either k (false ∷ xs) (false ∷ bs) e = lowest-either (suc k) xs bs (omega arith)
 
--- the conditions 3 to 10, the total apart
-pub partly : Head → List Pension → List Bool
-partly h ps =
-    (undatedHead h || any undated ps) ∷
-    any (disordered h) ps ∷
-    badAge (ageOf h) ∷
-    any unknownKind ps ∷
-    any unlisted ps ∷
-    any (wrongAge (ageOf h)) ps ∷
-    any (noFactor (ageOf h)) ps ∷
-    any unstated ps ∷ []
-
--- with no pension they are the head's
-pub partly-start : (h : Head) → lowest 3 (partly h []) ≡ lowest 3 (headConditions h)
-unfolding partly headConditions
-partly-start h = simp or-false
-
 -- one more pension
-partly-either : (h : Head) (ps : List Pension) (p : Pension)
-    → partly h (ps ++ (p ∷ [])) ≡ either (partly h ps) (pensionConditions h p)
-unfolding partly pensionConditions
-partly-either h ps p = simp (any-snoc, or-assoc, or-false)
+conditions-either : (h : Head) (ps : List Pension) (p : Pension)
+    → conditionsWith false h (ps ++ (p ∷ [])) ≡ either (conditionsWith false h ps) (pensionConditions h p)
+unfolding conditionsWith pensionConditions
+conditions-either h ps p = simp (any-snoc, or-assoc, or-false)
 
-pub partly-more : (h : Head) (ps : List Pension) (p : Pension)
-    → lowest 3 (partly h (ps ++ (p ∷ []))) ≡ lower (lowest 3 (partly h ps)) (lowest 3 (pensionConditions h p))
-unfolding partly pensionConditions
-partly-more h ps p =
-    ap (λ (bs : List Bool). lowest 3 bs) (partly-either h ps p) ∙ lowest-either 2 (partly h ps) (pensionConditions h p) refl
+conditions-more : (h : Head) (ps : List Pension) (p : Pension)
+    → lowest 3 (conditionsWith false h (ps ++ (p ∷ [])))
+    ≡ lower (lowest 3 (conditionsWith false h ps)) (lowest 3 (pensionConditions h p))
+unfolding conditionsWith pensionConditions
+conditions-more h ps p =
+    ap (λ (bs : List Bool). lowest 3 bs) (conditions-either h ps p)
+    ∙ lowest-either 2 (conditionsWith false h ps) (pensionConditions h p) refl
 
--- and at last the total
-above : Bool → List Bool
-above b = false ∷ false ∷ false ∷ false ∷ false ∷ false ∷ false ∷ b ∷ []
+-- and a total that is too high
+too-high : List Bool
+too-high = false ∷ false ∷ false ∷ false ∷ false ∷ false ∷ false ∷ true ∷ []
 
-conditions-either : (h : Head) (ps : List Pension)
-    → conditions h ps ≡ either (partly h ps) (above (ltb 50000000 (totalStated ps)))
-unfolding conditions partly above
-conditions-either h ps = simp or-false
+high-either : (h : Head) (ps : List Pension) → conditionsWith true h ps ≡ either (conditionsWith false h ps) too-high
+unfolding conditionsWith too-high
+high-either h ps = simp or-false
 
-pub conditions-total : (h : Head) (ps : List Pension)
-    → lowest 3 (conditions h ps) ≡ lower (lowest 3 (partly h ps)) (cond (ltb 50000000 (totalStated ps)) 10 0)
-unfolding partly above
-conditions-total h ps =
-    ap (λ (bs : List Bool). lowest 3 bs) (conditions-either h ps) ∙
-    lowest-either 2 (partly h ps) (above (ltb 50000000 (totalStated ps))) refl
+conditions-high : (h : Head) (ps : List Pension)
+    → lowest 3 (conditionsWith true h ps) ≡ lower (lowest 3 (conditionsWith false h ps)) 10
+unfolding conditionsWith too-high
+conditions-high h ps =
+    ap (λ (bs : List Bool). lowest 3 bs) (high-either h ps) ∙ lowest-either 2 (conditionsWith false h ps) too-high refl
 
 -- the conditions of a pension, the later ones together
 pub pension-lowest : (h : Head) (p : Pension) (age : ℕ) → age ≡ ageOf h → lowest 3 (pensionConditions h p)
     ≡ cond (undated p) 3
     (cond (disordered h p) 4
-    (cond (unknownKind p) 6 (lowest 7 (unlisted p ∷ wrongAge age p ∷ noFactor age p ∷ unstated p ∷ []))))
+    (cond (unknownKind p) 6 (lowest 7 (laterConditions age p))))
 unfolding pensionConditions
 pension-lowest h p age e = rw e
 
 -- a turn of the loop over the pensions: what the next pension breaks
-pub partly-next : (h : Head) (l : List Pension) (i r a b : ℕ) → i < length l → a ≡ lowest 3 (partly h (take i l))
-    → b ≡ lowest 3 (pensionConditions h (getD l i noPension)) → r ≡ lower a b → r ≡ lowest 3 (partly h (take (i + 1) l))
-partly-next h l i r a b place x y e =
-    e ∙ ap₂ lower x y ∙ sym (ap (λ (ps : List Pension). lowest 3 (partly h ps)) (take-next l i noPension place)
-    ∙ partly-more h (take i l) (getD l i noPension))
+pub conditions-next : (h : Head) (l : List Pension) (i r a b : ℕ) → i < length l
+    → a ≡ lowest 3 (conditionsWith false h (take i l)) → b ≡ lowest 3 (pensionConditions h (getD l i noPension))
+    → r ≡ lower a b → r ≡ lowest 3 (conditionsWith false h (take (i + 1) l))
+conditions-next h l i r a b place x y e =
+    e ∙ ap₂ lower x y ∙ sym (ap (λ (ps : List Pension). lowest 3 (conditionsWith false h ps)) (take-next l i noPension place)
+    ∙ conditions-more h (take i l) (getD l i noPension))
 
 -- after the loop, a total above the limit counts as one more condition
-pub total-above : (h : Head) (ps : List Pension) (t a r : ℕ) → t ≡ totalStated ps → a ≡ lowest 3 (partly h ps) → 50000000 < t
-    → r ≡ lower a 10 → r ≡ lowest 3 (conditions h ps)
-total-above h ps t a r e x over y =
-    y ∙ ap (λ (n : ℕ). lower n 10) x ∙ sym (conditions-total h ps ∙ simp (← e, lt-ltb 50000000 t over))
+pub total-above : (h : Head) (ps : List Pension) (t a r : ℕ) → t ≡ totalStated ps → a ≡ lowest 3 (conditionsWith false h ps)
+    → 50000000 < t → r ≡ lower a 10 → r ≡ lowest 3 (conditions h ps)
+total-above h ps t a r e x over y = rw (← e, lt-ltb 50000000 t over) (y ∙ rw x (sym (conditions-high h ps)))
 
-pub total-within : (h : Head) (ps : List Pension) (t a : ℕ) → t ≡ totalStated ps → a ≡ lowest 3 (partly h ps) → t ≤ 50000000
-    → a ≡ lowest 3 (conditions h ps)
-total-within h ps t a e x small =
-    x ∙ sym (conditions-total h ps ∙ simp (← e, le-ltb 50000000 t small) (lower-none (lowest 3 (partly h ps))))
+pub total-within : (h : Head) (ps : List Pension) (t a : ℕ) → t ≡ totalStated ps → a ≡ lowest 3 (conditionsWith false h ps)
+    → t ≤ 50000000 → a ≡ lowest 3 (conditions h ps)
+total-within h ps t a e x small = rw (← e, le-ltb 50000000 t small) x

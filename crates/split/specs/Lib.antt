@@ -1,5 +1,6 @@
 pub mod Benefits
 pub mod Case
+pub mod Conditions
 pub mod Figures
 pub mod Frame
 pub mod Grant

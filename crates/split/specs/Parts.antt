@@ -2,11 +2,9 @@
 -- conditions, which are worked out head first and then pension by pension, and the ranges that keep the arithmetic
 -- within its types. That they make up the conditions, and that they hold of an accepted case, is proved; nothing here
 -- has to be believed. Assumes nothing.
-use Prim.Native.Nat.{ℕ, _*_, _/_, _≤_, _<_, min}
-use mathlib.Core.Bool.{Bool, false, cond}
-use mathlib.Core.List.{List, [], _∷_}
+use Prim.Native.Nat.{ℕ, _*_, _/_, _≤_, _<_}
+use mathlib.Core.List.{List, []}
 use mathlib.Core.Path.{_≡_}
-use lib.Dec.{eqb}
 use lib.ListN.{length, getD, take}
 use Rattle.factors.specs.Effective.{FactorRange}
 use Rattle.split.specs.declared.case.Head.{Head}
@@ -18,7 +16,6 @@ use Rattle.split.specs.Case.{noPension}
 use Rattle.split.specs.Benefits.{benefitsOf}
 use Rattle.split.specs.Limits.{noBenefit}
 use Rattle.split.specs.Grant.{noRow}
-use Rattle.split.specs.Refusal.{ageOf, undatedHead, undated, disordered, badAge, unknownKind, unlisted, wrongAge, noFactor, unstated}
 
 -- digits of the longest case line, each below 16
 pub record Values (d : List ℕ) : Type 0 where
@@ -29,26 +26,6 @@ pub record Values (d : List ℕ) : Type 0 where
 pub record Digits (s d : List ℕ) : Type 0 where
   pub values : Values d
   pub each : (j : ℕ) → j < 202 → getD d j 0 ≡ digitAt s j
-
--- the lower of two refusals, of which 0 is none
-unfoldable pub lower : ℕ → ℕ → ℕ
-lower a b = cond (eqb a 0) b (cond (eqb b 0) a (min a b))
-
--- what the head alone breaks
-unfoldable pub headConditions : Head → List Bool
-headConditions h = undatedHead h ∷ false ∷ badAge (ageOf h) ∷ false ∷ false ∷ false ∷ false ∷ false ∷ []
-
--- what a pension breaks
-unfoldable pub pensionConditions : Head → Pension → List Bool
-pensionConditions h p =
-    undated p ∷
-    disordered h p ∷
-    false ∷
-    unknownKind p ∷
-    unlisted p ∷
-    wrongAge (ageOf h) p ∷
-    noFactor (ageOf h) p ∷
-    unstated p ∷ []
 
 -- a pension and its lump, for what remains of it
 pub record ShareRange (b : Benefit) (lump : ℕ) : Type 0 where

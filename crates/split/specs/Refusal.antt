@@ -80,9 +80,9 @@ unstated p = eqb (p .stated .0) 0
 abbrev pub totalStated : List Pension → ℕ
 totalStated ps = sumOf (λ p. p .stated .0) ps
 
--- conditions 3 to 10 of a case, in their order
-unfoldable pub conditions : Head → List Pension → List Bool
-conditions h ps =
+-- conditions 3 to 10 of a case, in their order, told whether the total is too high
+unfoldable pub conditionsWith : Bool → Head → List Pension → List Bool
+conditionsWith high h ps =
     (undatedHead h || any undated ps) ∷
     any (disordered h) ps ∷
     badAge (ageOf h) ∷
@@ -90,7 +90,10 @@ conditions h ps =
     any unlisted ps ∷
     any (wrongAge (ageOf h)) ps ∷
     any (noFactor (ageOf h)) ps ∷
-    (any unstated ps || ltb 50000000 (totalStated ps)) ∷ []
+    (any unstated ps || high) ∷ []
+
+abbrev pub conditions : Head → List Pension → List Bool
+conditions h ps = conditionsWith (ltb 50000000 (totalStated ps)) h ps
 
 -- the refusal of a line
 unfoldable pub refusalOf : List ℕ → ℕ
