@@ -12,7 +12,8 @@ use Rattle.split.specs.declared.limits.Benefit.{Benefit}
 use Rattle.split.specs.declared.grant.Row.{Row}
 use Rattle.split.specs.Limits.{total, totalCap, WithinCaps, spend, pricedLimit, Kept, KeepsPriced, PositiveTops, Best}
 use Rattle.split.specs.Grant.{lumpsOf, grant, rowAt}
-use Rattle.split.proofs.Prices.{priced-exact, exact-priced, total-capped}
+use Rattle.split.proofs.LimitsLaws.{total-capped}
+use Rattle.split.proofs.Prices.{priced-exact, exact-priced}
 use Rattle.split.proofs.Served.{Matches, none, more, paid}
 use Rattle.split.proofs.Level.{Fair, Settled}
 use Rattle.split.proofs.Turns.{grant-settled}

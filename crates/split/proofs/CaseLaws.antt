@@ -14,7 +14,7 @@ use Rattle.split.specs.declared.case.Service.{Service}
 use Rattle.split.specs.Frame.{numberAt, dateAt}
 use Rattle.split.specs.Case.{serviceAt, termsAt, pensionAt, pensionsAt}
 use Rattle.split.proofs.FrameLaws.{Of}
-use Rattle.split.proofs.ListLaws.{take-set-more}
+use Rattle.split.proofs.ListLoop.{take-set-more}
 
 -- a service, date by date
 pub service-read : (d : List ℕ) (at at₁ at₂ : ℕ) (start end : Date) → Of d start (λ s. dateAt s at) × (at₁ ≡ at + 8)

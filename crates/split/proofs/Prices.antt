@@ -7,7 +7,7 @@ use native.Mathlib.Nat
 use native.Mathlib.Omega.{arith}
 use Rattle.factors.specs.declared.effective.Factor.{Factor}
 use Rattle.split.specs.declared.limits.Benefit.{Benefit}
-use Rattle.split.specs.Limits.{total, priceOf, totalCap, WithinCaps, spend, pricedLimit, Kept, KeepsPriced, tops, exactCost, KeepsExact, PositiveTops}
+use Rattle.split.specs.Limits.{total, priceOf, spend, pricedLimit, Kept, KeepsPriced, tops, exactCost, KeepsExact, PositiveTops}
 
 pub ruleset ring = (Nat.add-mul, Nat.mul-add, Nat.mul-assoc, Nat.mul-comm, Nat.mul-left-comm)
 
@@ -78,10 +78,3 @@ exact-priced bs xs h k = record {
       (simp ring (omega (arith, simp ring at (spend-near bs xs), simp ring at (k .cost))))
       (tops-positive bs h);
 }
-
--- a split within the caps has at most their sum for its total
-pub total-capped : (bs : List Benefit) (xs : List ℕ) → WithinCaps bs xs → total xs ≤ totalCap bs
-total-capped [] [] h = omega arith
-total-capped [] (x ∷ xs) h = absurd h
-total-capped (b ∷ bs) [] h = absurd h
-total-capped (b ∷ bs) (x ∷ xs) h = omega (arith, total-capped bs xs (h .1))

@@ -25,10 +25,9 @@ use Rattle.split.specs.Limits.{total, WithinCaps, Best}
 use Rattle.split.specs.Quote.{remainingOf, secondOf, shareOf, noShare, sharesOf, lumpsGranted, grantedQuote, refusedQuote, quoteOf, lumpsIn, BestLumps, SharesFit, QuoteFits}
 use Rattle.calendar.proofs.TestLaws.{or-left, or-right, lowest-none}
 use Rattle.split.proofs.FrameLaws.{number-below}
-use Rattle.split.proofs.Prices.{total-capped}
 use Rattle.split.proofs.Best.{grant-best}
-use Rattle.split.proofs.AcceptedLaws.{AcceptedPension, Accepted, accepted, deferred-terms, accepted-rest, accepted-tops, accepted-caps, accepted-pensions}
-use Rattle.split.proofs.ShareLaws.{shares-counted}
+use Rattle.split.proofs.LimitsLaws.{total-capped}
+use Rattle.split.proofs.Accepted.{AcceptedPension, Accepted, case-accepted, deferred-terms, accepted-rest, accepted-tops, accepted-caps, accepted-pensions}
 
 -- a line of a listed length that agrees with its count has at most four pensions
 pub count-listed : (characters n : ℕ) → badLength characters n ≡ false → n ≤ 4
@@ -67,6 +66,21 @@ second-at-most h p lump a = go (eqb (p .kind) 2) refl
         (omega (arith, mul-le-mul-left lump (deferred-terms h p a (eqb-true (p .kind) 2 e) .increase-high)))
     go false e = omega arith
 
+-- the shares of pensions with a lump each: as many, and one more at the end
+pub shares-counted : (h : Head) (ps : List Pension) (xs : List ℕ) → length xs ≡ length ps
+    → length (sharesOf h ps xs) ≡ length ps
+shares-counted h [] xs e = refl
+shares-counted h (p ∷ ps) [] e = absurd (omega arith)
+shares-counted h (p ∷ ps) (x ∷ xs) e = ap suc (shares-counted h ps xs (omega arith))
+
+pub shares-more : (h : Head) (ps : List Pension) (xs : List ℕ) (p : Pension) (x : ℕ) → length xs ≡ length ps
+    → sharesOf h (ps ++ (p ∷ [])) (xs ++ (x ∷ [])) ≡ sharesOf h ps xs ++ (shareOf h p x ∷ [])
+shares-more h [] [] p x e = refl
+shares-more h [] (y ∷ xs) p x e = absurd (omega arith)
+shares-more h (q ∷ ps) [] p x e = absurd (omega arith)
+shares-more h (q ∷ ps) (y ∷ xs) p x e =
+    ap (λ (l : List Share). shareOf h q y ∷ l) (shares-more h ps xs p x (omega arith))
+
 -- a lump for each pension, of which every figure fits
 data Shared (h : Head) : List Pension → List ℕ → Type 0 where
   none : Shared h [] []
@@ -85,9 +99,9 @@ shared h (p ∷ ps) (x ∷ xs) a capped =
     (omega (arith, second-at-most h p x (a .each 0 (omega arith)))) (shared h ps xs (accepted-rest a) (capped .1))
 
 -- there are as many lumps as pensions
-lumps-counted : {h : Head} {ps : List Pension} {xs : List ℕ} → Shared h ps xs → length xs ≡ length ps
-lumps-counted none = refl
-lumps-counted (more x r s rest) = ap suc (lumps-counted rest)
+shared-counted : {h : Head} {ps : List Pension} {xs : List ℕ} → Shared h ps xs → length xs ≡ length ps
+shared-counted none = refl
+shared-counted (more x r s rest) = ap suc (shared-counted rest)
 
 -- the lumps of their shares are those given
 shares-lumps : {h : Head} {ps : List Pension} {xs : List ℕ} (after : List Share) → Shared h ps xs
@@ -97,11 +111,11 @@ shares-lumps after none = refl
 shares-lumps after (more {x = x} fits r s rest) = ap (λ (l : List ℕ). x ∷ l) (shares-lumps after rest)
 
 -- their figures fit
-shares-fit : {h : Head} {ps : List Pension} {xs : List ℕ} (after : List Share) → SharesFit after → Shared h ps xs
+shared-fit : {h : Head} {ps : List Pension} {xs : List ℕ} (after : List Share) → SharesFit after → Shared h ps xs
     → SharesFit (sharesOf h ps xs ++ after)
 unfolding shareOf
-shares-fit after fit none = fit
-shares-fit after fit (more x r s rest) = (x, r, s, shares-fit after fit rest)
+shared-fit after fit none = fit
+shared-fit after fit (more x r s rest) = (x, r, s, shared-fit after fit rest)
 
 -- the places of no pension
 none-fit : (n : ℕ) → SharesFit (replicate n noShare)
@@ -113,20 +127,20 @@ none-lumps zero = refl
 none-lumps (suc n) = ap (λ (l : List ℕ). 0 ∷ l) (none-lumps n)
 
 -- what a line has that is not refused
-record Granted (s : List ℕ) : Type 0 where
+record GrantedCase (s : List ℕ) : Type 0 where
   few : headOf s .count ≤ 4
   best : Best (benefitsOf (headOf s) (pensionsOf s)) (lumpsGranted (headOf s) (pensionsOf s))
   small : total (lumpsGranted (headOf s) (pensionsOf s)) ≤ 1000000000
   each : Shared (headOf s) (pensionsOf s) (lumpsGranted (headOf s) (pensionsOf s))
 
-granted : (s : List ℕ) → refusalOf s ≡ 0 → Granted s
+case-granted : (s : List ℕ) → refusalOf s ≡ 0 → GrantedCase s
 unfolding refusalOf lumpsGranted
-granted s e =
+case-granted s e =
     let h = headOf s in
     let ps = pensionsOf s in
     let later = lowest-none 0 (badCharacter s) (badLength (length s) (h .count) ∷ conditions h ps) e .1 in
     let last = lowest-none 1 (badLength (length s) (h .count)) (conditions h ps) later in
-    let a = accepted h ps (last .1) in
+    let a = case-accepted h ps (last .1) in
     let caps = accepted-caps h ps a in
     let best = grant-best (benefitsOf h ps) (accepted-tops h ps a) (omega arith) in
     record {
@@ -137,10 +151,10 @@ granted s e =
     }
 
 -- it has as many shares as pensions are counted
-places-counted : (s : List ℕ) → Granted s
+places-counted : (s : List ℕ) → GrantedCase s
     → length (sharesOf (headOf s) (pensionsOf s) (lumpsGranted (headOf s) (pensionsOf s))) ≡ headOf s .count
 places-counted s g =
-    shares-counted (headOf s) (pensionsOf s) (lumpsGranted (headOf s) (pensionsOf s)) (lumps-counted (g .each))
+    shares-counted (headOf s) (pensionsOf s) (lumpsGranted (headOf s) (pensionsOf s)) (shared-counted (g .each))
     ∙ pensions-counted s (headOf s .count)
 
 -- every figure of a grant fits
@@ -148,7 +162,7 @@ member-fits : (s : List ℕ) → headOf s .member < 4294967296
 unfolding headOf
 member-fits s = number-below s 0 8
 
-granted-fits : (s : List ℕ) → Granted s → QuoteFits (grantedQuote (headOf s) (pensionsOf s))
+granted-fits : (s : List ℕ) → GrantedCase s → QuoteFits (grantedQuote (headOf s) (pensionsOf s))
 unfolding grantedQuote
 granted-fits s g =
     let shares = sharesOf (headOf s) (pensionsOf s) (lumpsGranted (headOf s) (pensionsOf s)) in
@@ -156,7 +170,7 @@ granted-fits s g =
       member = member-fits s;
       total = omega arith;
       four = rw (length-append, length-replicate, places-counted s g) (omega arith);
-      shares = shares-fit (replicate (4 - length shares) noShare) (none-fit (4 - length shares)) (g .each);
+      shares = shared-fit (replicate (4 - length shares) noShare) (none-fit (4 - length shares)) (g .each);
     }
 
 -- and of a refusal
@@ -177,12 +191,12 @@ best-lumps s xs four e counted best =
     }
 
 -- so are those of a grant
-granted-best : (s : List ℕ) → Granted s → BestLumps s (lumpsIn (grantedQuote (headOf s) (pensionsOf s) .shares)) (grantedQuote (headOf s) (pensionsOf s) .total .0)
+granted-best : (s : List ℕ) → GrantedCase s → BestLumps s (lumpsIn (grantedQuote (headOf s) (pensionsOf s) .shares)) (grantedQuote (headOf s) (pensionsOf s) .total .0)
 unfolding grantedQuote
 granted-best s g =
     best-lumps s (lumpsGranted (headOf s) (pensionsOf s)) _
     (shares-lumps _ (g .each) ∙ rw (none-lumps, places-counted s g))
-    (lumps-counted (g .each) ∙ pensions-counted s (headOf s .count))
+    (shared-counted (g .each) ∙ pensions-counted s (headOf s .count))
     (g .best)
 
 -- the quote of a line is the grant's or the refusal's
@@ -209,12 +223,12 @@ quote-refusal s = by-refusal (λ q. q .refusal ≡ refusalOf s) s (λ e. sym e) 
 
 -- the figures of every quote fit
 pub quote-fits : (s : List ℕ) → QuoteFits (quoteOf s)
-quote-fits s = by-refusal QuoteFits s (λ e. granted-fits s (granted s e)) (λ ne. refused-fits (refusalOf s))
+quote-fits s = by-refusal QuoteFits s (λ e. granted-fits s (case-granted s e)) (λ ne. refused-fits (refusalOf s))
 
 -- the lumps of a quote without refusal are the best
 pub quote-best : (s : List ℕ) → refusalOf s ≡ 0 → BestLumps s (lumpsIn (quoteOf s .shares)) (quoteOf s .total .0)
 quote-best s e =
-    by-refusal (λ q. BestLumps s (lumpsIn (q .shares)) (q .total .0)) s (λ z. granted-best s (granted s z))
+    by-refusal (λ q. BestLumps s (lumpsIn (q .shares)) (q .total .0)) s (λ z. granted-best s (case-granted s z))
     (λ ne. absurd (ne e))
 
 -- a line with a bad character is refused

@@ -16,7 +16,7 @@ use Rattle.split.specs.declared.grant.Row.{Row}
 use Rattle.split.specs.Limits.{pricedLimit}
 use Rattle.split.specs.Grant.{rowOf, cheapest, most, nextLump, nextLeft, turns, rowAt, serve}
 use Rattle.split.proofs.Rows.{cheapest-lowest}
-use Rattle.split.proofs.Served.{waits, waits-start, waits-counted, waits-serve}
+use Rattle.split.proofs.Served.{waitOf, waits-start, waits-counted, waits-serve}
 use Rattle.split.proofs.Level.{State, state-start, state-serve, Settled, settle}
 
 -- the most is within the cap
@@ -54,7 +54,7 @@ state-turn {rs} {left} positive found state =
     (most-affordable (rowAt rs (cheapest rs)) left) (most-reaches (rowAt rs (cheapest rs)) left price) state
 
 -- as many turns as rows wait, or more, leave rows settled
-turns-settle : {bs : List Benefit} {floor : ℕ} → 1 ≤ floor → (n : ℕ) (rs : List Row) (left : ℕ) → sumOf waits rs ≤ n
+turns-settle : {bs : List Benefit} {floor : ℕ} → 1 ≤ floor → (n : ℕ) (rs : List Row) (left : ℕ) → sumOf waitOf rs ≤ n
     → State bs floor rs left → Settled bs floor (turns n rs left)
 unfolding turns
 turns-settle positive zero rs left count state = settle (λ j w. omega (arith, waits-counted rs j w)) state

@@ -7,4 +7,5 @@ pub mod Grant
 pub mod Limits
 pub mod Parts
 pub mod Quote
+pub mod Ranges
 pub mod Refusal

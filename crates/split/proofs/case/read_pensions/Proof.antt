@@ -8,7 +8,7 @@ use borrow.Author.Needs.{needs}
 use mir.Facts.{fits-below}
 use Rattle.split.specs.Case.{pensionsAt}
 use Rattle.split.proofs.FrameLaws.{Of}
-use Rattle.split.proofs.ListLaws.{up-to, fewer, at-end}
+use Rattle.split.proofs.ListLoop.{up-to, fewer, at-end}
 use Rattle.split.proofs.CaseLaws.{pension-start, pensions-stored}
 use Rattle.split.proofs.case.read_pensions.Statement.{statement}
 use Rattle.split.proofs.case.read_pensions.Tie as tie

@@ -7,8 +7,8 @@ use native.Mathlib.Numerals.{lt-of-le-of-ne}
 use lib.ListN.{take, drop}
 use mir.Facts.{fits-below}
 use Rattle.split.specs.Grant.{cheapest}
-use Rattle.split.proofs.ListLaws.{up-to, one-before}
-use Rattle.split.proofs.GrantLaws.{Next, place-next, place-end, place-start}
+use Rattle.split.proofs.ListLoop.{up-to, one-before}
+use Rattle.split.proofs.GrantLoop.{Next, place-next, place-end, place-start}
 use Rattle.split.proofs.grant.cheapest_row.Statement.{statement}
 use Rattle.split.proofs.grant.cheapest_row.Tie as tie
 

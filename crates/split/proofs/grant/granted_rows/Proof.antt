@@ -7,8 +7,8 @@ use native.Mathlib.Omega.{arith}
 use lib.ListN.{length, take, length-set}
 use mir.Facts.{fits-below}
 use Rattle.split.specs.Grant.{turns, rowAt}
-use Rattle.split.proofs.ListLaws.{up-to, one-fewer, fewer}
-use Rattle.split.proofs.GrantLaws.{prices-positive, turns-next, turns-idle}
+use Rattle.split.proofs.ListLoop.{up-to, one-fewer, fewer}
+use Rattle.split.proofs.GrantLoop.{prices-positive, turns-next, turns-idle}
 use Rattle.split.proofs.grant.granted_rows.Statement.{statement}
 use Rattle.split.proofs.grant.granted_rows.Tie as tie
 

@@ -9,7 +9,7 @@ use mir.Facts.{fits-below}
 use Rattle.calendar.proofs.SumLaws.{sum-next, sum-part}
 use Rattle.split.specs.declared.limits.Benefit.{Benefit}
 use Rattle.split.specs.Limits.{noBenefit, totalPension}
-use Rattle.split.proofs.ListLaws.{up-to, fewer, at-end}
+use Rattle.split.proofs.ListLoop.{up-to, fewer, at-end}
 use Rattle.split.proofs.limits.priced_limit.Statement.{statement}
 use Rattle.split.proofs.limits.priced_limit.Tie as tie
 

@@ -9,8 +9,8 @@ use Rattle.calendar.specs.Sums.{sumOf}
 use Rattle.calendar.proofs.SumLaws.{sum-next, sum-within}
 use Rattle.split.specs.declared.grant.Row.{Row}
 use Rattle.split.specs.Grant.{noRow}
-use Rattle.split.proofs.ListLaws.{up-to, fewer, at-end}
-use Rattle.split.proofs.ShareLaws.{lumps-total}
+use Rattle.split.proofs.ListLoop.{up-to, fewer, at-end}
+use Rattle.split.proofs.QuotingLoop.{lumps-total}
 use Rattle.split.proofs.quoting.total_of.Statement.{statement}
 use Rattle.split.proofs.quoting.total_of.Tie as tie
 

@@ -8,13 +8,13 @@ use native.Mathlib.Omega.{arith}
 use lib.ListN.{length, take}
 use borrow.Author.Needs.{needs}
 use mir.Facts.{fits-below}
-use Rattle.split.specs.Refusal.{ageOf, totalStated, conditionsWith}
 use Rattle.calendar.specs.Tests.{lowest}
 use Rattle.calendar.proofs.SumLaws.{sum-next}
 use Rattle.split.specs.declared.case.Pension.{Pension}
+use Rattle.split.specs.Refusal.{ageOf, totalStated, conditionsWith}
 use Rattle.split.specs.Case.{noPension}
-use Rattle.split.proofs.ListLaws.{up-to, fewer, at-end}
-use Rattle.split.proofs.RefusalLaws.{conditions-next, total-above, total-within}
+use Rattle.split.proofs.ListLoop.{up-to, fewer, at-end}
+use Rattle.split.proofs.RefusalLoop.{conditions-next, total-above, total-within}
 use Rattle.split.proofs.refusal.case_refusal.Statement.{statement}
 use Rattle.split.proofs.refusal.case_refusal.Tie as tie
 

@@ -1,7 +1,7 @@
 -- `head_refusal`: the first test that passes is the lowest condition.
-use borrow.Author.Needs.{needs}
 use mathlib.Core.Bool.{or-false}
 use mathlib.Core.Path.{_≡_, sym, _∙_, ap}
+use borrow.Author.Needs.{needs}
 use Rattle.split.specs.Refusal.{ageOf, badAge, conditionsWith}
 use Rattle.split.proofs.refusal.head_refusal.Statement.{statement}
 use Rattle.split.proofs.refusal.head_refusal.Tie as tie

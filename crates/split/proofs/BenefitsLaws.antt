@@ -1,24 +1,29 @@
--- Laws of the limits: a pension, its factor and its cap as the code works them out are those
--- of the definitions, a cap and a quarter's lump stay in range, and the total of the pensions grows by one. Assumes nothing.
-use Prim.Native.Nat.{ℕ, _*_, _/_, _≤_, _<_}
+-- Laws of a pension as the limits see it: it, its factor and its cap as the code works them out are those of the
+-- definitions, a cap is at most a quarter's lump, which is at most twenty pensions, and each pension is at its place.
+-- Assumes nothing.
+use Prim.Native.Nat.{ℕ, zero, suc, _*_, _/_, _≤_, _<_}
 use mathlib.Core.Bool.{Bool, true, false, _&&_}
-use mathlib.Core.List.{[]}
-use mathlib.Core.Path.{_≡_, _∙_, ap}
-use native.Mathlib.Nat.{mul-le-mul-left, div-le-of-le-mul}
+use mathlib.Core.List.{List, [], _∷_, map}
+use mathlib.Core.Path.{_≡_, refl, sym, _∙_, ap}
+use native.Mathlib.Nat.{div-le-of-le-mul, mul-le-mul-left}
 use native.Mathlib.Omega.{arith}
-use lib.Dec.{ltb, eqb}
+use lib.Dec.{eqb, ltb}
+use lib.ListN.{length, getD, take}
+use lib.Seq.{getD-take, length-take-le}
 use Rattle.calendar.specs.Calendar.{months, sixtiethBirthday}
+use Rattle.factors.specs.declared.effective.FactorTerms.{FactorTerms}
 use Rattle.factors.specs.declared.money.LumpPence.{LumpPence}
 use Rattle.factors.specs.declared.money.YearlyPence.{YearlyPence}
 use Rattle.factors.specs.declared.effective.Factor.{Factor}
-use Rattle.factors.specs.declared.effective.FactorTerms.{FactorTerms}
+use Rattle.factors.specs.Effective.{FactorRange, effectiveFactor}
 use Rattle.factors.specs.EarlyPayment.{reducedPension}
-use Rattle.factors.specs.Effective.{effectiveFactor, FactorRange}
 use Rattle.split.specs.declared.case.Head.{Head}
 use Rattle.split.specs.declared.case.Pension.{Pension}
 use Rattle.split.specs.declared.limits.Benefit.{Benefit}
+use Rattle.split.specs.Case.{noPension}
 use Rattle.split.specs.Refusal.{ageOf}
-use Rattle.split.specs.Benefits.{workedPension, workedTerms, factorOf, limitedLump, quarterLump, capOf, benefitOf}
+use Rattle.split.specs.Benefits.{workedPension, factorOf, limitedLump, quarterLump, benefitOf, benefitsOf, workedTerms, capOf}
+use Rattle.split.specs.Limits.{noBenefit}
 use Rattle.split.proofs.Prices.{ring}
 
 -- the pension, where it is reduced for early payment and where it is kept whole
@@ -77,3 +82,17 @@ benefit-made h p age pension e limited cap a x y l z =
     let factor : e ≡ factorOf (ageOf h) p = rw (← a) y in
     let capped : cap .0 ≡ capOf (limitedLump p) (workedPension h p) (factorOf (ageOf h) p) = rw (← l, ← x, ← factor) z in
     λ i. record { pension = record { 0 = x i }; factor = factor i; cap = record { 0 = capped i } }
+
+-- a pension as the limits see it
+map-at : {A B : Type 0} (f : A → B) (l : List A) (j : ℕ) (d : A) (e : B) → j < length l → getD (map f l) j e ≡ f (getD l j d)
+map-at f [] j d e h = absurd (omega arith)
+map-at f (x ∷ l) zero d e h = refl
+map-at f (x ∷ l) (suc j) d e h = map-at f l j d e (omega arith)
+
+pub benefit-at : (h : Head) (ps : List Pension) (bs : List Benefit) (n j : ℕ) → n ≤ length ps → j < n
+    → take n bs ≡ benefitsOf h (take n ps) → getD bs j noBenefit ≡ benefitOf h (getD ps j noPension)
+benefit-at h ps bs n j inside place e =
+    sym (getD-take n bs j noBenefit place)
+    ∙ ap (λ (l : List Benefit). getD l j noBenefit) e
+    ∙ map-at (benefitOf h) (take n ps) j noPension noBenefit (rw (length-take-le n ps inside) place)
+    ∙ ap (benefitOf h) (getD-take n ps j noPension place)

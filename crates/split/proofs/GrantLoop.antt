@@ -137,8 +137,8 @@ rows-priced bs rs n whole e j h =
     go (b ∷ l) (suc k) p = go l k (omega arith)
 
 -- as many turns of the first n rows as there are pensions are the grant
-pub granted : (bs : List Benefit) (n limit : ℕ) (rs after : List Row) → n ≤ length bs
+pub grant-made : (bs : List Benefit) (n limit : ℕ) (rs after : List Row) → n ≤ length bs
     → take n rs ≡ map rowOf (take n bs) → limit ≡ pricedLimit (take n bs) → take n after ≡ turns n (take n rs) limit
     → lumpsOf (take n after) ≡ grant (take n bs)
 unfolding grant
-granted bs n limit rs after whole made l e = rw (length-take-le n bs whole, e, made, l)
+grant-made bs n limit rs after whole made l e = rw (length-take-le n bs whole, e, made, l)

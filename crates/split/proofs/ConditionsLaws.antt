@@ -1,21 +1,19 @@
 -- The lowest condition of a case is the lower of those of its head, of each pension and of the total: a list of
 -- conditions joined place by place with another has the lower of their lowest. Assumes nothing.
-use Prim.Native.Nat.{ℕ, zero, suc, _+_, _≤_, _<_, min}
-use mathlib.Core.Path.{_≡_, refl, sym, _∙_, ap, ap₂}
+use Prim.Native.Nat.{ℕ, zero, suc, _≤_, _<_, min}
+use mathlib.Core.Path.{_≡_, refl, sym, _∙_, ap}
 use mathlib.Core.Bool.{Bool, true, false, cond, _||_, or-false, or-assoc}
 use mathlib.Core.Logic.{_⊎_, inl, inr, ⊎-elim}
 use mathlib.Core.List.{List, [], _∷_, _++_}
 use native.Mathlib.Omega.{arith}
-use lib.ListN.{length, getD, take}
-use borrow.Author.Tests.{ne-eqb, lt-ltb, le-ltb}
+use lib.ListN.{length}
+use borrow.Author.Tests.{ne-eqb}
+use Rattle.calendar.specs.Tests.{lowest}
+use Rattle.calendar.proofs.TestLaws.{any-snoc}
 use Rattle.split.specs.declared.case.Head.{Head}
 use Rattle.split.specs.declared.case.Pension.{Pension}
-use Rattle.split.specs.Case.{noPension}
-use Rattle.calendar.specs.Tests.{lowest}
-use Rattle.split.specs.Refusal.{ageOf, undated, disordered, unknownKind, totalStated, conditions, conditionsWith}
+use Rattle.split.specs.Refusal.{ageOf, undated, disordered, unknownKind, conditionsWith}
 use Rattle.split.specs.Conditions.{lower, laterConditions, pensionConditions}
-use Rattle.split.proofs.ListLaws.{take-next}
-use Rattle.calendar.proofs.TestLaws.{any-snoc}
 
 -- two lists of conditions, place by place
 abbrev pub either : List Bool → List Bool → List Bool
@@ -75,7 +73,7 @@ conditions-either : (h : Head) (ps : List Pension) (p : Pension)
 unfolding conditionsWith pensionConditions
 conditions-either h ps p = simp (any-snoc, or-assoc, or-false)
 
-conditions-more : (h : Head) (ps : List Pension) (p : Pension)
+pub conditions-more : (h : Head) (ps : List Pension) (p : Pension)
     → lowest 3 (conditionsWith false h (ps ++ (p ∷ [])))
     ≡ lower (lowest 3 (conditionsWith false h ps)) (lowest 3 (pensionConditions h p))
 unfolding conditionsWith pensionConditions
@@ -91,7 +89,7 @@ high-either : (h : Head) (ps : List Pension) → conditionsWith true h ps ≡ ei
 unfolding conditionsWith too-high
 high-either h ps = simp or-false
 
-conditions-high : (h : Head) (ps : List Pension)
+pub conditions-high : (h : Head) (ps : List Pension)
     → lowest 3 (conditionsWith true h ps) ≡ lower (lowest 3 (conditionsWith false h ps)) 10
 unfolding conditionsWith too-high
 conditions-high h ps =
@@ -104,20 +102,3 @@ pub pension-lowest : (h : Head) (p : Pension) (age : ℕ) → age ≡ ageOf h �
     (cond (unknownKind p) 6 (lowest 7 (laterConditions age p))))
 unfolding pensionConditions
 pension-lowest h p age e = rw e
-
--- a turn of the loop over the pensions: what the next pension breaks
-pub conditions-next : (h : Head) (l : List Pension) (i r a b : ℕ) → i < length l
-    → a ≡ lowest 3 (conditionsWith false h (take i l)) → b ≡ lowest 3 (pensionConditions h (getD l i noPension))
-    → r ≡ lower a b → r ≡ lowest 3 (conditionsWith false h (take (i + 1) l))
-conditions-next h l i r a b place x y e =
-    e ∙ ap₂ lower x y ∙ sym (ap (λ (ps : List Pension). lowest 3 (conditionsWith false h ps)) (take-next l i noPension place)
-    ∙ conditions-more h (take i l) (getD l i noPension))
-
--- after the loop, a total above the limit counts as one more condition
-pub total-above : (h : Head) (ps : List Pension) (t a r : ℕ) → t ≡ totalStated ps → a ≡ lowest 3 (conditionsWith false h ps)
-    → 50000000 < t → r ≡ lower a 10 → r ≡ lowest 3 (conditions h ps)
-total-above h ps t a r e x over y = rw (← e, lt-ltb 50000000 t over) (y ∙ rw x (sym (conditions-high h ps)))
-
-pub total-within : (h : Head) (ps : List Pension) (t a : ℕ) → t ≡ totalStated ps → a ≡ lowest 3 (conditionsWith false h ps)
-    → t ≤ 50000000 → a ≡ lowest 3 (conditions h ps)
-total-within h ps t a e x small = rw (← e, le-ltb 50000000 t small) x

@@ -1,5 +1,5 @@
--- Laws of lists for loops that go through one or fill one: `any` by the next element or by one more at the end, what a
--- test that holds of none says of each, a part that grows by a store, and how far a loop has come. Assumes nothing.
+-- What a turn of a loop that goes through a list or fills one does: a part grows by the next element or by a store, and
+-- how far the loop has come. Assumes nothing.
 use mathlib.Core.Path.{_≡_, sym}
 use mathlib.Core.Bool.{true≢false}
 use mathlib.Core.List.{List, [], _∷_, _++_, map, map-append}

@@ -1,0 +1,22 @@
+-- Laws of splits within the caps: of their total, and of each lump. Assumes nothing.
+use Prim.Native.Nat.{ℕ, zero, suc, _≤_}
+use mathlib.Core.List.{List, [], _∷_}
+use native.Mathlib.Omega.{arith}
+use lib.ListN.{getD}
+use Rattle.split.specs.declared.limits.Benefit.{Benefit}
+use Rattle.split.specs.Limits.{noBenefit, total, totalCap, WithinCaps}
+
+-- a split within the caps has at most their sum for its total
+pub total-capped : (bs : List Benefit) (xs : List ℕ) → WithinCaps bs xs → total xs ≤ totalCap bs
+total-capped [] [] h = omega arith
+total-capped [] (x ∷ xs) h = absurd h
+total-capped (b ∷ bs) [] h = absurd h
+total-capped (b ∷ bs) (x ∷ xs) h = omega (arith, total-capped bs xs (h .1))
+
+-- and at each place at most its cap
+pub caps-at : (bs : List Benefit) (xs : List ℕ) → WithinCaps bs xs → (j : ℕ) → getD xs j 0 ≤ (getD bs j noBenefit) .cap .0
+caps-at [] [] h j = omega arith
+caps-at [] (x ∷ xs) h j = absurd h
+caps-at (b ∷ bs) [] h j = absurd h
+caps-at (b ∷ bs) (x ∷ xs) h zero = h .0
+caps-at (b ∷ bs) (x ∷ xs) h (suc j) = caps-at bs xs (h .1) j
