@@ -8,20 +8,21 @@ use mathlib.Core.Path.{_≡_, refl}
 use native.Mathlib.Omega.{arith}
 use lib.Dec.{leb, eqb, ltb}
 use lib.ListN.{length, getD}
-use borrow.Author.Tests.{eqb-true, not-false, ltb-false, eq-eqb, ne-eqb}
+use borrow.Author.Tests.{lt-ltb, eqb-true, not-false, ltb-false, eq-eqb, ne-eqb}
 use Rattle.calendar.specs.Tests.{within, lowest, any}
-use Rattle.calendar.specs.Calendar.{months, sixtiethBirthday}
+use Rattle.calendar.specs.Calendar.{inCalendar, months, sixtiethBirthday}
+use Rattle.calendar.proofs.Laws.{months-to-sixtieth, sixtieth-ahead}
 use Rattle.calendar.proofs.TestLaws.{and-right, within-bounds, and-left, or-left, or-right, any-none, none-holds}
 use Rattle.factors.specs.declared.effective.FactorTerms.{FactorTerms}
 use Rattle.factors.specs.Effective.{FactorRange, effectiveFactor}
 use Rattle.factors.specs.Commutation.{commutationFactor}
-use Rattle.factors.specs.EarlyPayment.{reducedPension}
-use Rattle.factors.proofs.Laws.{DeferredTerms, direct-range, deferred-range, active-range, commutation-range, reduced-at-most}
+use Rattle.factors.specs.EarlyPayment.{tableA, earlyPaymentFactor, reducedPension}
+use Rattle.factors.proofs.Laws.{DeferredTerms, direct-range, deferred-range, active-range, commutation-range, early-payment-range, reduced-at-most}
 use Rattle.split.specs.declared.case.Head.{Head}
 use Rattle.split.specs.declared.case.Pension.{Pension}
 use Rattle.split.specs.Case.{noPension}
 use Rattle.split.specs.Refusal.{ageOf, listedF1, noIncrease, listedIncrease, unlisted, conditions, undatedHead, undated, disordered, badAge, unknownKind, wrongAge, noFactor, unstated, totalStated, conditionsWith}
-use Rattle.split.specs.Benefits.{workedPension, factorOf, limitedLump, benefitOf, benefitsOf, workedTerms}
+use Rattle.split.specs.Benefits.{workedPension, EarlyPaid, factorOf, limitedLump, benefitOf, benefitsOf, workedTerms}
 use Rattle.split.specs.Limits.{totalPension, totalCap, PositiveTops}
 use Rattle.split.proofs.BenefitsLaws.{cap-quarter, quarter-at-most}
 
@@ -151,6 +152,27 @@ worked-at-most h p = go (eqb (p .kind) 3 && ltb (ageOf h) 720)
     go : (early : Bool) → cond early (reducedPension (p .stated .0) left) (p .stated .0) ≤ p .stated .0
     go true = reduced-at-most (p .stated .0) left
     go false = omega arith
+
+-- kind 3 is at 660 months or more, so below 720 months Table A is looked up within its 61 entries
+active-aged : (h : Head) (p : Pension) → AcceptedPension h p → p .kind ≡ 3 → 660 ≤ ageOf h
+unfolding wrongAge
+active-aged h p a kind = ltb-false (ageOf h) 660 (simp kind at (a .aged))
+
+pub early-paid : (h : Head) (ps : List Pension) → Accepted h ps → (j : ℕ) → j < length ps → getD ps j noPension .kind ≡ 3
+    → ageOf h < 720 → EarlyPaid h (getD ps j noPension) (months (h .commencement) (sixtiethBirthday (h .birth)))
+unfolding ageOf undatedHead workedPension reducedPension earlyPaymentFactor tableA
+early-paid h ps a j place kind young =
+    let birth = or-left (not (inCalendar (h .birth))) _ (a .head-dated) in
+    let last = months-to-sixtieth (h .birth) (h .commencement) (active-aged h (getD ps j noPension) (a .each j place) kind) young in
+    record {
+      ahead =
+          sixtieth-ahead (h .birth) (h .commencement) (not-false _ birth)
+          (not-false _ (or-right (not (inCalendar (h .birth))) _ (a .head-dated))) young;
+      last = last;
+      held = omega arith;
+      entry = early-payment-range _ last;
+      worked = simp (kind, lt-ltb (ageOf h) 720 young);
+    }
 
 -- the pensions after the first are accepted too
 pub accepted-rest : {h : Head} {p : Pension} {ps : List Pension} → Accepted h (p ∷ ps) → Accepted h ps
