@@ -1,10 +1,15 @@
--- Laws of splits within the caps: of their total, and of each lump. Assumes nothing.
-use Prim.Native.Nat.{ℕ, zero, suc, _≤_}
+-- Laws of a quotient rounded up, and of splits within the caps: of their total, and of each lump. Assumes nothing.
+use Prim.Native.Nat.{ℕ, zero, suc, _+_, _≤_}
 use mathlib.Core.List.{List, [], _∷_}
+use native.Mathlib.Nat.{le-trans, div-le-self}
 use native.Mathlib.Omega.{arith}
 use lib.ListN.{getD}
 use Rattle.split.specs.declared.limits.Benefit.{Benefit}
-use Rattle.split.specs.Limits.{noBenefit, total, totalCap, WithinCaps}
+use Rattle.split.specs.Limits.{roundedUp, noBenefit, total, totalCap, WithinCaps}
+
+-- a quotient rounded up is at most its parts together
+pub rounded-small : (x y : ℕ) → roundedUp x y ≤ x + y
+rounded-small x y = le-trans (div-le-self _ y) (omega arith)
 
 -- a split within the caps has at most their sum for its total
 pub total-capped : (bs : List Benefit) (xs : List ℕ) → WithinCaps bs xs → total xs ≤ totalCap bs

@@ -7,7 +7,7 @@ use native.Mathlib.Nat
 use native.Mathlib.Omega.{arith}
 use Rattle.factors.specs.declared.effective.Factor.{Factor}
 use Rattle.split.specs.declared.limits.Benefit.{Benefit}
-use Rattle.split.specs.Limits.{total, priceOf, spend, pricedLimit, Kept, KeepsPriced, tops, exactCost, KeepsExact, PositiveTops}
+use Rattle.split.specs.Limits.{roundedUp, total, priceOf, spend, pricedLimit, Kept, KeepsPriced, tops, exactCost, KeepsExact, PositiveTops}
 
 pub ruleset ring = (Nat.add-mul, Nat.mul-add, Nat.mul-assoc, Nat.mul-comm, Nat.mul-left-comm)
 
@@ -16,16 +16,22 @@ pub price-floor : (e : Factor) → 3000000000 ≤ priceOf e
 unfolding priceOf
 price-floor e = omega arith
 
+-- a quotient rounded up covers its dividend, and is at most a divisor over it
+rounded-covers : (x y : ℕ) → 1 ≤ y → x ≤ roundedUp x y * y
+rounded-covers x y positive = omega (arith, Nat.lt-div-mul-add {a = x + (y - 1)} positive)
+
+rounded-near : (x y : ℕ) → roundedUp x y * y ≤ x + y
+rounded-near x y = Nat.le-trans (Nat.div-mul-le-self _ y) (omega arith)
+
 -- a price times its top is at least 3 tops and 20 bottoms, in billionths
 price-covers : (e : Factor) → 1 ≤ e .top → 3000000000 * e .top + 20000000000 * e .bottom ≤ priceOf e * e .top
 unfolding priceOf
-price-covers e positive =
-    rw Nat.add-mul (omega (arith, Nat.lt-div-mul-add {a = 20000000000 * e .bottom + (e .top - 1)} {b = e .top} positive))
+price-covers e positive = rw Nat.add-mul (omega (arith, rounded-covers (20000000000 * e .bottom) (e .top) positive))
 
 -- and at most a top more
 price-near : (e : Factor) → priceOf e * e .top ≤ 3000000000 * e .top + 20000000000 * e .bottom + e .top
 unfolding priceOf
-price-near e = rw Nat.add-mul (omega (arith, Nat.div-mul-le-self (20000000000 * e .bottom + (e .top - 1)) (e .top)))
+price-near e = rw Nat.add-mul (omega (arith, rounded-near (20000000000 * e .bottom) (e .top)))
 
 -- the product of positive tops is positive
 tops-positive : (bs : List Benefit) → PositiveTops bs → 1 ≤ tops bs

@@ -1,7 +1,7 @@
 -- The grant ("Grant" of document 01): lowest price first, equal prices in line order, each pension the most
 -- its cap and the remaining priced limit allow. Assumes nothing.
 use Prim.Native.Nat.{ℕ, zero, suc, _-_, _*_, _/_, min}
-use mathlib.Core.Bool.{true, false, cond, _&&_, _||_}
+use mathlib.Core.Bool.{Bool, true, false, cond, _&&_, _||_}
 use mathlib.Core.List.{List, [], _∷_, map}
 use lib.Dec.{leb, ltb, eqb}
 use lib.ListN.{length, getD, set}
@@ -21,11 +21,15 @@ rowOf b = record { price = priceOf (b .factor); cap = b .cap; lump = record { 0 
 abbrev pub rowAt : List Row → ℕ → Row
 rowAt rs i = getD rs i noRow
 
+-- "lowest price first, equal prices in line order": a row has its turn before one behind it
+abbrev pub goesFirst : Row → Row → Bool
+goesFirst r behind = leb (r .price) (behind .price)
+
 -- the place of the first waiting row of the lowest price; the number of rows where none waits
 unfoldable pub cheapest : List Row → ℕ
 cheapest [] = 0
 cheapest (r ∷ rs) =
-    cond (r .waiting && (eqb (cheapest rs) (length rs) || leb (r .price) ((rowAt rs (cheapest rs)) .price)))
+    cond (r .waiting && (eqb (cheapest rs) (length rs) || goesFirst r (rowAt rs (cheapest rs))))
     0
     (suc (cheapest rs))
 

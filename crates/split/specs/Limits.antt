@@ -15,9 +15,13 @@ noBenefit =
 abbrev pub total : List ℕ → ℕ
 total xs = sumOf (λ x. x) xs
 
+-- x/y rounded up to a whole number
+abbrev pub roundedUp : ℕ → ℕ → ℕ
+roundedUp x y = (x + (y - 1)) / y
+
 -- "Price of one penny of lump, in billionths: 3,000,000,000 plus 20,000,000,000/E rounded up"
 unfoldable pub priceOf : Factor → ℕ
-priceOf e = 3000000000 + (20000000000 * e .bottom + (e .top - 1)) / e .top
+priceOf e = 3000000000 + roundedUp (20000000000 * e .bottom) (e .top)
 
 -- the sum of P over the pensions of the case
 abbrev pub totalPension : List Benefit → ℕ

@@ -9,7 +9,7 @@ ghost use Prim.Native.Nat.{ℕ, _-_, _*_, _≤_, _<_};
 ghost use lib.ListN.{length, getD, take};
 ghost use Rattle.factors.specs.Effective.{FactorRange};
 ghost use Rattle.split.specs.Limits.{noBenefit, totalPension};
-ghost use Rattle.split.specs.Grant.{rowOf, rowAt, cheapest, most, serve, turns, lumpsOf, grant};
+ghost use Rattle.split.specs.Grant.{rowOf, rowAt, goesFirst, cheapest, most, serve, turns, lumpsOf, grant};
 
 // A pension in the grant: its price, its cap, the lump it has been given, and whether its turn is still to come.
 pub struct Row {
@@ -61,6 +61,13 @@ fn rows_of(benefits: [Benefit; 4], n: usize) -> [Row; 4]
     rows
 }
 
+// Whether a row has its turn before one behind it: lowest price first, equal prices in line order.
+fn goes_first(row: Row, behind: Row) -> bool
+    ensures { λ r. ⌜ r ≡ goesFirst row behind ⌝ }
+{
+    row.price <= behind.price
+}
+
 // The place of the first waiting row of the lowest price among the first n; n where none waits.
 fn cheapest_row(rows: [Row; 4], n: usize) -> usize
     requires { ⌜ n ≤ 4 ⌝ }
@@ -76,7 +83,7 @@ fn cheapest_row(rows: [Row; 4], n: usize) -> usize
                 best = i;
             } else {
                 let other = rows[best];
-                if row.price <= other.price {
+                if goes_first(row, other) {
                     best = i;
                 }
             }
