@@ -112,15 +112,16 @@ fn turn(rows: [Row; 4], place: usize, left: u64) -> Served
 {
     let row = rows[place];
     let lump = most_of(row, left);
+    let price = row.price;
     let cap = row.cap;
     let mut after = rows;
     after[place] = Row {
-        price: row.price,
+        price,
         cap,
         lump: LumpPence(lump),
         waiting: false,
     };
-    let spent = lump as u64 * row.price;
+    let spent = lump as u64 * price;
     Served {
         rows: after,
         left: left - spent,
