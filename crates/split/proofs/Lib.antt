@@ -10,6 +10,7 @@ pub mod LimitLaws
 pub mod ListLaws
 pub mod Prices
 pub mod QuoteLaws
+pub mod ReadingLaws
 pub mod RefusalLaws
 pub mod Rows
 pub mod Served

@@ -2,13 +2,13 @@
 -- range. A cap is at most a quarter's lump, so that a lump gives up no more than the pension. Assumes nothing.
 use Prim.Native.Nat.{ℕ, zero, suc, _+_, _-_, _*_, _/_, _≤_, _<_}
 use mathlib.Core.Bool.{Bool, true, false, cond, not, _&&_}
-use mathlib.Core.List.{List, [], _∷_, _++_, map, append-assoc}
+use mathlib.Core.List.{List, [], _∷_, _++_, map}
 use mathlib.Core.Path.{_≡_, refl, sym, _∙_, ap}
 use native.Mathlib.Nat.{div-le-of-le-mul, le-div-iff-mul-le}
 use native.Mathlib.Omega.{arith}
 use lib.Dec.{leb, eqb}
 use lib.ListN.{length, getD, take, set, replicate, length-take}
-use lib.Seq.{getD-take, length-take-le, set-at}
+use lib.Seq.{getD-take, length-take-le}
 use borrow.Author.Tests.{eqb-true, not-false}
 use Rattle.calendar.proofs.TestLaws.{and-right, within-bounds}
 use Rattle.factors.specs.declared.effective.FactorTerms.{FactorTerms}
@@ -26,7 +26,7 @@ use Rattle.split.specs.Limits.{noBenefit, total, totalPension, totalCap,
 use Rattle.split.specs.Grant.{noRow, lumpsOf, grant}
 use Rattle.split.specs.Quote.{shareOf, noShare, sharesOf, padded}
 use Rattle.split.specs.Parts.{ShareRange, SharesRange}
-use Rattle.split.proofs.ListLaws.{take-next}
+use Rattle.split.proofs.ListLaws.{take-next, store-next}
 use Rattle.split.proofs.Prices.{ring, total-capped}
 use Rattle.split.proofs.Best.{grant-best}
 use Rattle.split.proofs.AcceptedLaws.{AcceptedPension, Accepted, accepted, factor-range, worked-at-most, stated-at-most, accepted-tops, accepted-caps, accepted-pensions}
@@ -84,13 +84,6 @@ shares-more h [] (y ∷ xs) p x e = absurd (omega arith)
 shares-more h (q ∷ ps) [] p x e = absurd (omega arith)
 shares-more h (q ∷ ps) (y ∷ xs) p x e =
     ap (λ (l : List Share). shareOf h q y ∷ l) (shares-more h ps xs p x (omega arith))
-
--- a store just past a part that others follow
-store-next : {A : Type 0} (xs : List A) (n i : ℕ) (x z : A) → length xs ≡ i → i < n
-    → set (xs ++ replicate (n - i) z) i x ≡ (xs ++ (x ∷ [])) ++ replicate (n - (i + 1)) z
-store-next xs n i x z counted h =
-    let left : n - i ≡ suc (n - (i + 1)) = omega arith in
-    rw (left, set-at xs z (replicate (n - (i + 1)) z) x i counted, append-assoc)
 
 -- as many lumps as pensions in the first places
 parts-counted : (ps : List Pension) (rs : List Row) (n : ℕ) → length ps ≡ 4 → length rs ≡ 4

@@ -1,9 +1,11 @@
 pub mod Benefits
 pub mod Case
+pub mod Digits
 pub mod Figures
 pub mod Frame
 pub mod Grant
 pub mod Limits
 pub mod Parts
 pub mod Quote
+pub mod Reading
 pub mod Refusal

@@ -1,34 +1,22 @@
--- Definitions for the contracts of private functions: the digits of a line, as `decode` gives them; parts of the
--- conditions, which are worked out head first and then pension by pension, and the ranges that keep the arithmetic
--- within its types. That they make up the conditions, and that they hold of an accepted case, is proved; nothing here
--- has to be believed. Assumes nothing.
+-- Definitions for the contracts of private functions: parts of the conditions, which are worked out head first and then
+-- pension by pension, and the ranges that keep the arithmetic within its types. That they make up the conditions, and that
+-- they hold of an accepted case, is proved; nothing here has to be believed. Assumes nothing.
 use Prim.Native.Nat.{ℕ, _*_, _/_, _≤_, _<_, min}
 use mathlib.Core.Bool.{Bool, false, cond}
 use mathlib.Core.List.{List, [], _∷_}
 use mathlib.Core.Path.{_≡_}
 use lib.Dec.{eqb}
-use lib.ListN.{length, getD, take}
+use lib.ListN.{getD, take}
 use Rattle.factors.specs.Effective.{FactorRange}
 use Rattle.split.specs.declared.case.Head.{Head}
 use Rattle.split.specs.declared.case.Pension.{Pension}
 use Rattle.split.specs.declared.limits.Benefit.{Benefit}
 use Rattle.split.specs.declared.grant.Row.{Row}
-use Rattle.split.specs.Frame.{digitAt}
 use Rattle.split.specs.Case.{noPension}
 use Rattle.split.specs.Benefits.{benefitsOf}
 use Rattle.split.specs.Limits.{noBenefit}
 use Rattle.split.specs.Grant.{noRow}
 use Rattle.split.specs.Refusal.{ageOf, undatedHead, undated, disordered, badAge, unknownKind, unlisted, wrongAge, noFactor, unstated}
-
--- digits of the longest case line, each below 16
-pub record Values (d : List ℕ) : Type 0 where
-  pub size : length d ≡ 202
-  pub low : (j : ℕ) → getD d j 0 < 16
-
--- the digits of a line, as far as the longest goes
-pub record Digits (s d : List ℕ) : Type 0 where
-  pub values : Values d
-  pub each : (j : ℕ) → j < 202 → getD d j 0 ≡ digitAt s j
 
 -- the lower of two refusals, of which 0 is none
 unfoldable pub lower : ℕ → ℕ → ℕ

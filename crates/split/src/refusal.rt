@@ -19,10 +19,9 @@ fn is_within(low: u32, high: u32, x: u32) -> bool
 pub fn has_bad_length(characters: usize, n: u8) -> bool
     ensures { λ r. ⌜ r ≡ badLength characters n ⌝ }
 {
+    let counted = is_within(1, 4, n as u32);
     let wanted = 26 + 44 * (n as usize);
-    let short = (characters == 70) | (characters == 114);
-    let long = (characters == 158) | (characters == 202);
-    !(short | long) | !(characters == wanted)
+    !(counted & (characters == wanted))
 }
 
 fn is_undated_head(head: Head) -> bool
