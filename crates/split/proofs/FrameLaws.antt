@@ -126,22 +126,21 @@ number-split s at m (suc n) =
     rw (add-suc, numberAt, pow-suc, ← add-assoc at m n, ← mul-assoc) (omega (arith, number-split s at m n))
 
 -- two digits make a byte
-pub pair-read : (d : List ℕ) (at v : ℕ) → at + 2 ≤ longestLine → v ≡ getD d at 0 * 16 + getD d (at + 1) 0
+pub pair-read : {d : List ℕ} {v : ℕ} (at : ℕ) → at + 2 ≤ longestLine → v ≡ getD d at 0 * 16 + getD d (at + 1) 0
     → FieldOf d v (λ s. numberAt s at 2)
 unfolding numberAt
-pair-read d at v h e s digits =
+pair-read at h e s digits =
     e ∙ simp add-zero (omega (arith, digits .each at (omega arith), digits .each (at + 1) (omega arith)))
 
 -- and two numbers of as many digits one of twice as many
-pub number-joined : (d : List ℕ) (at at₁ n high low : ℕ) → FieldOf d high (λ s. numberAt s at n) → at₁ ≡ at + n
+pub number-joined : {d : List ℕ} {at₁ high low : ℕ} (at n : ℕ) → FieldOf d high (λ s. numberAt s at n) → at₁ ≡ at + n
     → FieldOf d low (λ s. numberAt s at₁ n) → FieldOf d (high * 16 ^ n + low) (λ s. numberAt s at (n + n))
-number-joined d at at₁ n high low a e b s digits =
-    rw (a s digits, b s digits, e) (sym (number-split s at n n))
+number-joined at n a e b s digits = rw (a s digits, b s digits, e) (sym (number-split s at n n))
 
 -- a date is read part by part
-pub date-read : (d : List ℕ) (at at₁ at₂ at₃ year month day : ℕ) → FieldOf d year (λ s. numberAt s at 4) × (at₁ ≡ at + 4)
+pub date-read : {d : List ℕ} {at₁ at₂ at₃ year month day : ℕ} (at : ℕ) → FieldOf d year (λ s. numberAt s at 4) × (at₁ ≡ at + 4)
     → FieldOf d month (λ s. numberAt s at₁ 2) × (at₂ ≡ at₁ + 2) → FieldOf d day (λ s. numberAt s at₂ 2) × (at₃ ≡ at₂ + 2)
     → FieldOf d (date year month day) (λ s. dateAt s at) × (at₃ ≡ at + 8)
 unfolding dateAt
-date-read d at at₁ at₂ at₃ year month day y m e =
+date-read at y m e =
     (λ s digits. cc (add-assoc at 4 2, y .0 s digits, m .0 s digits, e .0 s digits), omega arith)

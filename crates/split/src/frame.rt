@@ -8,8 +8,12 @@ ghost use Rattle.split.specs.Frame.{hexValue, noDigit, digitAt, numberAt
 ghost use Rattle.split.specs.Case.{longestLine};
 ghost use Rattle.split.specs.Digits.{Values, Digits, FieldOf};
 
-// The characters of the longest case line.
-const LONGEST: usize = 202;
+// The characters of a head, of a pension, and of the longest case line.
+pub const HEAD_LENGTH: usize = 26;
+
+pub const PENSION_LENGTH: usize = 44;
+
+const LONGEST: usize = HEAD_LENGTH + 4 * PENSION_LENGTH;
 
 // The value of a character: 0-9 and A-F, and 16 for any other.
 pub fn hex_value(character: u8) -> u8

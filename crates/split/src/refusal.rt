@@ -1,6 +1,7 @@
 // Refusals 2 to 10: the length of a line, and the lowest condition that holds of its case.
 use crate::case::Head;
 use crate::case::Pension;
+use crate::frame;
 use factors::effective::FactorTerms;
 ghost use mathlib.Core.Path.{_≡_};
 ghost use mathlib.Core.List.{[], _∷_};
@@ -20,7 +21,7 @@ pub fn has_bad_length(characters: usize, n: u8) -> bool
     ensures { λ r. ⌜ r ≡ badLength characters n ⌝ }
 {
     let counted = is_within(1, 4, n as u32);
-    let wanted = 26 + 44 * (n as usize);
+    let wanted = frame::HEAD_LENGTH + frame::PENSION_LENGTH * (n as usize);
     !(counted & (characters == wanted))
 }
 

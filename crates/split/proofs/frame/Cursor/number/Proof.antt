@@ -8,10 +8,9 @@ use Rattle.split.proofs.frame.Cursor.number.Tie as tie
 returns : tie.Need-returns
 returns c =
     let low = c .before .before .before in
-    let high = low .before .before in
-    let args = high .before .before .args in (
-      number-joined (args .digits .now) (args .self .at) (high .short .result .next .at) 4 (high .short .result .value)
-          (low .short2 .result .value) (high .short .ensures .0) (high .short .ensures .1) (low .short2 .ensures .0),
+    let high = low .before .before in (
+      number-joined (high .before .before .args .self .at) 4 (high .short .ensures .0) (high .short .ensures .1)
+          (low .short2 .ensures .0),
       omega arith,
     )
 
