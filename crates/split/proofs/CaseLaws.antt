@@ -13,57 +13,53 @@ use Rattle.split.specs.declared.case.Head.{Head}
 use Rattle.split.specs.declared.case.Pension.{Pension}
 use Rattle.split.specs.declared.case.Service.{Service}
 use Rattle.split.specs.Frame.{numberAt, dateAt}
-use Rattle.split.specs.Case.{headOf, serviceAt, termsAt, pensionAt, pensionsAt, placesAt, noPension, headLength, pensionLength, caseLength}
-use Rattle.split.specs.Digits.{FieldOf}
+use Rattle.split.specs.Case.{headAt, serviceAt, termsAt, pensionAt, pensionsAt, placesAt, noPension, headLength, pensionLength, caseLength}
+use Rattle.split.specs.Digits.{FieldOf, Taken, numberOf}
 use Rattle.split.proofs.ListLaws.{store-next}
 
+-- the head
+pub head-read : {d : List ℕ} {at at₁ at₂ at₃ at₄ member count : ℕ} {birth commencement : Date} → Taken d at (numberOf 8) 8 member at₁
+    → Taken d at₁ dateAt 8 birth at₂ → Taken d at₂ dateAt 8 commencement at₃ → Taken d at₃ (numberOf 2) 2 count at₄
+    → Taken d at headAt headLength (record { member = member; birth = birth; commencement = commencement; count = count }) at₄
+unfolding headAt
+head-read {at = at} a b e f =
+    record {
+      value = λ s digits.
+          cc (add-assoc at 8 8, add-assoc at 16 8, a .value s digits, b .value s digits, e .value s digits, f .value s digits);
+      next = omega arith;
+    }
+
 -- a service, date by date
-pub service-read : {d : List ℕ} {at₁ at₂ : ℕ} {start end : Date} (at : ℕ) → FieldOf d start (λ s. dateAt s at) × (at₁ ≡ at + 8)
-    → FieldOf d end (λ s. dateAt s at₁) × (at₂ ≡ at₁ + 8)
-    → FieldOf {A = Service} d (record { start = start; end = end }) (λ s. serviceAt s at) × (at₂ ≡ at + 16)
+pub service-read : {d : List ℕ} {at at₁ at₂ : ℕ} {start end : Date} → Taken d at dateAt 8 start at₁ → Taken d at₁ dateAt 8 end at₂
+    → Taken d at serviceAt 16 (record { start = start; end = end }) at₂
 unfolding serviceAt
-service-read at a b = (λ s digits. cc (a .0 s digits, b .0 s digits), omega arith)
+service-read a b = record { value = λ s digits. cc (a .value s digits, b .value s digits); next = omega arith }
 
 -- the terms
-pub terms-read : {d : List ℕ} {at₁ at₂ at₃ at₄ f1 f2 f3 increase : ℕ} (at : ℕ)
-    → FieldOf d f1 (λ s. numberAt s at 4) × (at₁ ≡ at + 4) → FieldOf d f2 (λ s. numberAt s at₁ 4) × (at₂ ≡ at₁ + 4)
-    → FieldOf d f3 (λ s. numberAt s at₂ 4) × (at₃ ≡ at₂ + 4) → FieldOf d increase (λ s. numberAt s at₃ 4) × (at₄ ≡ at₃ + 4)
-    → FieldOf {A = FactorTerms} d (record { f1 = f1; f2 = f2; f3 = f3; increase = increase }) (λ s. termsAt s at) × (at₄ ≡ at + 16)
+pub terms-read : {d : List ℕ} {at at₁ at₂ at₃ at₄ f1 f2 f3 increase : ℕ} → Taken d at (numberOf 4) 4 f1 at₁
+    → Taken d at₁ (numberOf 4) 4 f2 at₂ → Taken d at₂ (numberOf 4) 4 f3 at₃ → Taken d at₃ (numberOf 4) 4 increase at₄
+    → Taken d at termsAt 16 (record { f1 = f1; f2 = f2; f3 = f3; increase = increase }) at₄
 unfolding termsAt
-terms-read at a b e f =
-    (λ s digits. cc (add-assoc at 4 4, add-assoc at 8 4, a .0 s digits, b .0 s digits, e .0 s digits, f .0 s digits), omega arith)
+terms-read {at = at} a b e f =
+    record {
+      value = λ s digits.
+          cc (add-assoc at 4 4, add-assoc at 8 4, a .value s digits, b .value s digits, e .value s digits, f .value s digits);
+      next = omega arith;
+    }
 
--- a pension
-pub pension-read : {d : List ℕ} {at₁ at₂ at₃ at₄ at₅ kind stated lift : ℕ} {service : Service} {terms : FactorTerms} (at : ℕ)
-    → FieldOf d kind (λ s. numberAt s at 2) × (at₁ ≡ at + 2) → FieldOf d stated (λ s. numberAt s at₁ 8) × (at₂ ≡ at₁ + 8)
-    → FieldOf d service (λ s. serviceAt s at₂) × (at₃ ≡ at₂ + 16) → FieldOf d lift (λ s. numberAt s at₃ 2) × (at₄ ≡ at₃ + 2)
-    → FieldOf d terms (λ s. termsAt s at₄) × (at₅ ≡ at₄ + 16)
-    → FieldOf {A = Pension} d (record { kind = kind; stated = record { 0 = stated }; service = service; lift = lift; terms = terms })
-    (λ s. pensionAt s at) × (at₅ ≡ at + pensionLength)
+-- and a pension
+pub pension-read : {d : List ℕ} {at at₁ at₂ at₃ at₄ at₅ kind stated lift : ℕ} {service : Service} {terms : FactorTerms}
+    → Taken d at (numberOf 2) 2 kind at₁ → Taken d at₁ (numberOf 8) 8 stated at₂ → Taken d at₂ serviceAt 16 service at₃
+    → Taken d at₃ (numberOf 2) 2 lift at₄ → Taken d at₄ termsAt 16 terms at₅
+    → Taken d at pensionAt pensionLength
+    (record { kind = kind; stated = record { 0 = stated }; service = service; lift = lift; terms = terms }) at₅
 unfolding pensionAt
-pension-read at a b e f g = (
-  λ s digits. cc (
-    add-assoc at 2 8,
-    add-assoc at 10 16,
-    add-assoc at 26 2,
-    a .0 s digits,
-    b .0 s digits,
-    e .0 s digits,
-    f .0 s digits,
-    g .0 s digits,
-  ),
-  omega arith,
-)
-
--- and the head
-pub head-read : {d : List ℕ} {at₁ at₂ at₃ at₄ member count : ℕ} {birth commencement : Date} (at : ℕ) → at ≡ 0
-    → FieldOf d member (λ s. numberAt s at 8) × (at₁ ≡ at + 8) → FieldOf d birth (λ s. dateAt s at₁) × (at₂ ≡ at₁ + 8)
-    → FieldOf d commencement (λ s. dateAt s at₂) × (at₃ ≡ at₂ + 8) → FieldOf d count (λ s. numberAt s at₃ 2) × (at₄ ≡ at₃ + 2)
-    → FieldOf {A = Head} d (record { member = member; birth = birth; commencement = commencement; count = count }) headOf
-    × (at₄ ≡ headLength)
-unfolding headOf
-head-read at start a b e f =
-    (λ s digits. cc (a .0 s digits, b .0 s digits, e .0 s digits, f .0 s digits), omega arith)
+pension-read {at = at} a b e f g =
+    record {
+      value = λ s digits.
+          cc (add-assoc at 2 8, add-assoc at 10 16, add-assoc at 26 2, a .value s digits, b .value s digits, e .value s digits, f .value s digits, g .value s digits);
+      next = omega arith;
+    }
 
 -- one pension more
 pensions-more : (s : List ℕ) (k : ℕ) → pensionsAt s (k + 1) ≡ pensionsAt s k ++ (pensionAt s (caseLength k) ∷ [])

@@ -18,7 +18,7 @@ use Rattle.calendar.specs.Calendar.{date}
 use Rattle.factors.proofs.Table.{below-at}
 use Rattle.split.specs.Frame.{noDigit, badCharacter, digitAt, numberAt, dateAt, hexValue}
 use Rattle.split.specs.Case.{longestLine}
-use Rattle.split.specs.Digits.{Digits, FieldOf}
+use Rattle.split.specs.Digits.{Digits, FieldOf, Taken, numberOf}
 use Rattle.calendar.proofs.TestLaws.{any-none}
 
 pub digit-below : (s : List ℕ) (at : ℕ) → digitAt s at < 16
@@ -126,21 +126,31 @@ number-split s at m (suc n) =
     rw (add-suc, numberAt, pow-suc, ← add-assoc at m n, ← mul-assoc) (omega (arith, number-split s at m n))
 
 -- two digits make a byte
-pub pair-read : {d : List ℕ} {v : ℕ} (at : ℕ) → at + 2 ≤ longestLine → v ≡ getD d at 0 * 16 + getD d (at + 1) 0
-    → FieldOf d v (λ s. numberAt s at 2)
+pub pair-read : {d : List ℕ} {v end : ℕ} (at : ℕ) → at + 2 ≤ longestLine → v ≡ getD d at 0 * 16 + getD d (at + 1) 0
+    → end ≡ at + 2 → Taken d at (numberOf 2) 2 v end
 unfolding numberAt
-pair-read at h e s digits =
-    e ∙ simp add-zero (omega (arith, digits .each at (omega arith), digits .each (at + 1) (omega arith)))
+pair-read at h e moved =
+    record {
+      value = λ s digits.
+          e ∙ simp add-zero (omega (arith, digits .each at (omega arith), digits .each (at + 1) (omega arith)));
+      next = moved;
+    }
 
 -- and two numbers of as many digits one of twice as many
-pub number-joined : {d : List ℕ} {at₁ high low : ℕ} (at n : ℕ) → FieldOf d high (λ s. numberAt s at n) → at₁ ≡ at + n
-    → FieldOf d low (λ s. numberAt s at₁ n) → FieldOf d (high * 16 ^ n + low) (λ s. numberAt s at (n + n))
-number-joined at n a e b s digits = rw (a s digits, b s digits, e) (sym (number-split s at n n))
+pub number-joined : {d : List ℕ} {at at₁ at₂ n high low : ℕ} → Taken d at (numberOf n) n high at₁
+    → Taken d at₁ (numberOf n) n low at₂ → Taken d at (numberOf (n + n)) (n + n) (high * 16 ^ n + low) at₂
+number-joined {at = at} {n = n} a b =
+    record {
+      value = λ s digits. rw (a .value s digits, b .value s digits, a .next) (sym (number-split s at n n));
+      next = omega arith;
+    }
 
 -- a date is read part by part
-pub date-read : {d : List ℕ} {at₁ at₂ at₃ year month day : ℕ} (at : ℕ) → FieldOf d year (λ s. numberAt s at 4) × (at₁ ≡ at + 4)
-    → FieldOf d month (λ s. numberAt s at₁ 2) × (at₂ ≡ at₁ + 2) → FieldOf d day (λ s. numberAt s at₂ 2) × (at₃ ≡ at₂ + 2)
-    → FieldOf d (date year month day) (λ s. dateAt s at) × (at₃ ≡ at + 8)
+pub date-read : {d : List ℕ} {at at₁ at₂ at₃ year month day : ℕ} → Taken d at (numberOf 4) 4 year at₁
+    → Taken d at₁ (numberOf 2) 2 month at₂ → Taken d at₂ (numberOf 2) 2 day at₃ → Taken d at dateAt 8 (date year month day) at₃
 unfolding dateAt
-date-read at y m e =
-    (λ s digits. cc (add-assoc at 4 2, y .0 s digits, m .0 s digits, e .0 s digits), omega arith)
+date-read {at = at} y m e =
+    record {
+      value = λ s digits. cc (add-assoc at 4 2, y .value s digits, m .value s digits, e .value s digits);
+      next = omega arith;
+    }

@@ -1,7 +1,6 @@
 -- Laws of lists for loops that go through one or fill one: `any` by the next element or by one more at the end, what a
 -- test that holds of none says of each, a part that grows by a store, and how far a loop has come. Assumes nothing.
 use mathlib.Core.Path.{_≡_, sym}
-use mathlib.Core.Bool.{true≢false}
 use mathlib.Core.List.{List, [], _∷_, _++_, map, map-append, append-assoc}
 use Prim.Native.Nat.{ℕ, suc, _+_, _-_, _<_, _≤_}
 use native.Mathlib.Nat.{le-antisymm}

@@ -16,7 +16,7 @@ use Rattle.split.specs.declared.case.Pension.{Pension}
 use Rattle.split.specs.declared.case.Case.{Case}
 use Rattle.split.specs.declared.answers.Share.{Share}
 use Rattle.split.specs.declared.answers.Quote.{Quote}
-use Rattle.split.specs.Case.{headOf, pensionsOf}
+use Rattle.split.specs.Case.{headAt, headOf, pensionsOf}
 use Rattle.split.specs.Frame.{badCharacter}
 use Rattle.split.specs.Refusal.{badLength, conditions, refusalOf}
 use Rattle.calendar.specs.Tests.{lowest}
@@ -27,7 +27,7 @@ use Rattle.split.specs.Quote.{remainingOf, secondOf, shareOf, noShare, s
 use Rattle.calendar.proofs.TestLaws.{lowest-none}
 use Rattle.split.proofs.FrameLaws.{number-below}
 use Rattle.split.proofs.CaseLaws.{pensions-counted}
-use Rattle.split.proofs.ReadingLaws.{by-zero, count-listed, line-passed, Read, case-refused}
+use Rattle.split.proofs.ReadingLaws.{by-zero, count-listed, Read, case-refused}
 use Rattle.split.proofs.Prices.{total-capped}
 use Rattle.split.proofs.Best.{grant-best}
 use Rattle.split.proofs.AcceptedLaws.{AcceptedPension, Accepted, accepted, deferred-terms, accepted-rest, accepted-tops, accepted-caps, accepted-pensions}
@@ -122,7 +122,7 @@ places-counted s g =
 
 -- every figure of a grant fits
 member-fits : (s : List ℕ) → headOf s .member < 4294967296
-unfolding headOf
+unfolding headOf headAt
 member-fits s = number-below s 0 8
 
 granted-fits : (s : List ℕ) → Granted s → QuoteFits (grantedQuote (headOf s) (pensionsOf s))
@@ -201,7 +201,7 @@ module _ {s : List ℕ} {c : Case} {refused : ℕ} (read : Read s c)
     (judged : refused ≡ lowest 3 (conditions (c .head) (take (c .head .count) (c .pensions)))) where
   case-of : refusalOf s ≡ refused
   case-of =
-      line-passed s (read .passed)
+      read .judged
       ∙ sym (judged ∙ ap (λ (l : List Pension). lowest 3 (conditions (c .head) l)) (read .taken)
       ∙ ap (λ (h : Head). lowest 3 (conditions h (pensionsOf s))) (read .head))
 

@@ -4,19 +4,18 @@
 use Prim.Native.Nat.{ℕ, _≤_}
 use mathlib.Core.Bool.{Bool, true, false, cond}
 use mathlib.Core.List.{List, [], _∷_}
-use mathlib.Core.Path.{_≡_, refl, sym, _∙_, ap}
-use native.Mathlib.Omega.{arith}
+use mathlib.Core.Path.{_≡_, refl, _∙_}
 use lib.Dec.{eqb}
-use lib.ListN.{length, take, replicate}
+use lib.ListN.{length, take}
 use lib.Seq.{take-at}
-use borrow.Author.Tests.{eqb-true, eqb-false, not-false}
+use borrow.Author.Tests.{eqb-true, eqb-false, ne-eqb, not-false}
 use Rattle.calendar.specs.Tests.{within, lowest}
 use Rattle.calendar.proofs.TestLaws.{and-left, within-bounds, lowest-none}
 use Rattle.split.specs.declared.case.Head.{Head}
 use Rattle.split.specs.declared.case.Pension.{Pension}
 use Rattle.split.specs.declared.case.Case.{Case}
 use Rattle.split.specs.Frame.{badCharacter}
-use Rattle.split.specs.Case.{headOf, pensionsAt, placesAt, pensionsOf, noPension}
+use Rattle.split.specs.Case.{headOf, pensionsAt, placesAt, pensionsOf}
 use Rattle.split.specs.Refusal.{badLength, lineRefusal, conditions, refusalOf}
 use Rattle.split.specs.Reading.{wholeCase, refusedCase, caseOf}
 use Rattle.split.proofs.CaseLaws.{pensions-counted}
@@ -35,23 +34,16 @@ unfolding badLength
 count-listed characters n e = within-bounds 1 4 n (and-left (within 1 4 n) _ (not-false _ e)) .1
 
 -- the refusal of a line is that of its characters or its length, and else that of its case
-line-first : (s : List ℕ) → (lineRefusal s ≡ 0 → ⊥) → refusalOf s ≡ lineRefusal s
+line-then-case : (s : List ℕ)
+    → refusalOf s ≡ cond (eqb (lineRefusal s) 0) (lowest 3 (conditions (headOf s) (pensionsOf s))) (lineRefusal s)
 unfolding refusalOf lineRefusal
-line-first s = go (badCharacter s) (badLength (length s) (headOf s .count)) (conditions (headOf s) (pensionsOf s))
+line-then-case s = go (badCharacter s) (badLength (length s) (headOf s .count)) (conditions (headOf s) (pensionsOf s))
   where
-    go : (a b : Bool) (cs : List Bool) → (lowest 1 (a ∷ b ∷ []) ≡ 0 → ⊥) → lowest 1 (a ∷ b ∷ cs) ≡ lowest 1 (a ∷ b ∷ [])
-    go true b cs some = refl
-    go false true cs some = refl
-    go false false cs some = absurd (some refl)
-
-pub line-passed : (s : List ℕ) → lineRefusal s ≡ 0 → refusalOf s ≡ lowest 3 (conditions (headOf s) (pensionsOf s))
-unfolding refusalOf lineRefusal
-line-passed s = go (badCharacter s) (badLength (length s) (headOf s .count)) (conditions (headOf s) (pensionsOf s))
-  where
-    go : (a b : Bool) (cs : List Bool) → lowest 1 (a ∷ b ∷ []) ≡ 0 → lowest 1 (a ∷ b ∷ cs) ≡ lowest 3 cs
-    go true b cs e = absurd (omega arith)
-    go false true cs e = absurd (omega arith)
-    go false false cs e = refl
+    go : (a b : Bool) (cs : List Bool)
+        → lowest 1 (a ∷ b ∷ cs) ≡ cond (eqb (lowest 1 (a ∷ b ∷ [])) 0) (lowest 3 cs) (lowest 1 (a ∷ b ∷ []))
+    go true b cs = refl
+    go false true cs = refl
+    go false false cs = refl
 
 -- a line with a bad character is refused
 pub case-bad-character : (s : List ℕ) (c : Case) → badCharacter s ≡ true → c ≡ refusedCase 1 → c ≡ caseOf s
@@ -73,7 +65,7 @@ module _ (s : List ℕ) (h : Head) (digits : badCharacter s ≡ false) (read : h
 
 -- what a case says that is not refused
 pub record Read (s : List ℕ) (c : Case) : Type 0 where
-  pub passed : lineRefusal s ≡ 0
+  pub judged : refusalOf s ≡ lowest 3 (conditions (headOf s) (pensionsOf s))
   pub head : c .head ≡ headOf s
   pub few : c .head .count ≤ 4
   pub taken : take (c .head .count) (c .pensions) ≡ pensionsOf s
@@ -84,7 +76,7 @@ whole-read s e =
     let n = headOf s .count in
     let right = lowest-none 0 (badCharacter s) (badLength (length s) n ∷ []) e .1 in
     record {
-      passed = e;
+      judged = line-then-case s ∙ simp e;
       head = refl;
       few = count-listed (length s) n (lowest-none 1 (badLength (length s) n) [] right .0);
       taken = take-at (pensionsAt s n) _ n (pensions-counted s n);
@@ -100,4 +92,4 @@ module _ (s : List ℕ) (c : Case) (made : c ≡ caseOf s) where
   pub case-refused : (c .refusal ≡ 0 → ⊥) → refusalOf s ≡ c .refusal
   unfolding caseOf wholeCase refusedCase
   case-refused = rw made (by-zero (λ c. (c .refusal ≡ 0 → ⊥) → refusalOf s ≡ c .refusal) (lineRefusal s) (wholeCase s)
-      (refusedCase (lineRefusal s)) (λ e some. absurd (some refl)) (λ n some. line-first s n))
+      (refusedCase (lineRefusal s)) (λ e some. absurd (some refl)) (λ n some. line-then-case s ∙ simp (ne-eqb (lineRefusal s) 0 n)))

@@ -10,9 +10,18 @@ use Rattle.split.specs.declared.case.Pension.{Pension}
 use Rattle.split.specs.Frame.{numberAt, dateAt}
 
 -- "Head: member number 4 bytes, birth date, commencement date, count n of pensions 1 byte"
+unfoldable pub headAt : List ℕ → ℕ → Head
+headAt s at =
+    record {
+      member = numberAt s at 8;
+      birth = dateAt s (at + 8);
+      commencement = dateAt s (at + 16);
+      count = numberAt s (at + 24) 2;
+    }
+
+-- a line begins with it
 unfoldable pub headOf : List ℕ → Head
-headOf s =
-    record { member = numberAt s 0 8; birth = dateAt s 8; commencement = dateAt s 16; count = numberAt s 24 2 }
+headOf s = headAt s 0
 
 -- "service start date, service end date"
 unfoldable pub serviceAt : List ℕ → ℕ → Service

@@ -7,9 +7,8 @@ use factors::effective::FactorTerms;
 use factors::money::YearlyPence;
 ghost use mathlib.Core.Path.{_≡_};
 ghost use Prim.Native.Nat.{_+_, _≤_};
-ghost use Rattle.calendar.specs.Calendar.{date};
-ghost use Rattle.split.specs.Case.{headOf, serviceAt, termsAt, pensionAt, placesAt, noPension, headLength, pensionLength, longestLine};
-ghost use Rattle.split.specs.Digits.{Values, FieldOf};
+ghost use Rattle.split.specs.Case.{headAt, serviceAt, termsAt, pensionAt, placesAt, noPension, headLength, pensionLength, longestLine};
+ghost use Rattle.split.specs.Digits.{Values, FieldOf, Taken};
 ghost use Rattle.split.specs.Reading.{refusedCase, caseOf};
 
 pub struct Head {
@@ -60,8 +59,8 @@ struct PensionField {
 }
 
 fn read_head(digits: &[u8], at: Cursor) -> HeadField
-    requires { ⌜ (at .at ≡ 0) × Values (now digits) ⌝ }
-    ensures { λ r. ⌜ FieldOf (now (digits .entry)) (r .value) headOf × (r .next .at ≡ headLength) ⌝ }
+    requires { ⌜ (at .at + headLength ≤ longestLine) × Values (now digits) ⌝ }
+    ensures { λ r. ⌜ Taken (now (digits .entry)) (at .at) headAt headLength (r .value) (r .next .at) ⌝ }
 {
     let member = at.number(digits);
     let after_member = member.next;
@@ -86,7 +85,7 @@ fn read_head(digits: &[u8], at: Cursor) -> HeadField
 
 fn read_service(digits: &[u8], at: Cursor) -> ServiceField
     requires { ⌜ (at .at + 16 ≤ longestLine) × Values (now digits) ⌝ }
-    ensures { λ r. ⌜ FieldOf (now (digits .entry)) (r .value) (λ s. serviceAt s (at .at)) × (r .next .at ≡ at .at + 16) ⌝ }
+    ensures { λ r. ⌜ Taken (now (digits .entry)) (at .at) serviceAt 16 (r .value) (r .next .at) ⌝ }
 {
     let start = at.date(digits);
     let after_start = start.next;
@@ -105,7 +104,7 @@ fn read_service(digits: &[u8], at: Cursor) -> ServiceField
 
 fn read_terms(digits: &[u8], at: Cursor) -> TermsField
     requires { ⌜ (at .at + 16 ≤ longestLine) × Values (now digits) ⌝ }
-    ensures { λ r. ⌜ FieldOf (now (digits .entry)) (r .value) (λ s. termsAt s (at .at)) × (r .next .at ≡ at .at + 16) ⌝ }
+    ensures { λ r. ⌜ Taken (now (digits .entry)) (at .at) termsAt 16 (r .value) (r .next .at) ⌝ }
 {
     let f1 = at.short(digits);
     let after_f1 = f1.next;
@@ -128,7 +127,7 @@ fn read_terms(digits: &[u8], at: Cursor) -> TermsField
 
 fn read_pension(digits: &[u8], at: Cursor) -> PensionField
     requires { ⌜ (at .at + pensionLength ≤ longestLine) × Values (now digits) ⌝ }
-    ensures { λ r. ⌜ FieldOf (now (digits .entry)) (r .value) (λ s. pensionAt s (at .at)) × (r .next .at ≡ at .at + pensionLength) ⌝ }
+    ensures { λ r. ⌜ Taken (now (digits .entry)) (at .at) pensionAt pensionLength (r .value) (r .next .at) ⌝ }
 {
     let kind = at.byte(digits);
     let after_kind = kind.next;
@@ -154,25 +153,20 @@ fn read_pension(digits: &[u8], at: Cursor) -> PensionField
     }
 }
 
-fn no_date() -> Date
-    ensures { λ r. ⌜ r ≡ date 0 0 0 ⌝ }
-{
-    Date {
-        year: 0,
-        month: 0,
-        day: 0,
-    }
-}
-
 fn no_pension() -> Pension
     ensures { λ r. ⌜ r ≡ noPension ⌝ }
 {
+    let none = Date {
+        year: 0,
+        month: 0,
+        day: 0,
+    };
     Pension {
         kind: 0,
         stated: YearlyPence(0),
         service: Service {
-            start: no_date(),
-            end: no_date(),
+            start: none,
+            end: none,
         },
         lift: 0,
         terms: FactorTerms {
@@ -205,12 +199,17 @@ fn read_pensions(digits: &[u8], at: Cursor, n: usize) -> [Pension; 4]
 fn refused_case(refusal: u8) -> Case
     ensures { λ r. ⌜ r ≡ refusedCase refusal ⌝ }
 {
+    let none = Date {
+        year: 0,
+        month: 0,
+        day: 0,
+    };
     Case {
         refusal,
         head: Head {
             member: 0,
-            birth: no_date(),
-            commencement: no_date(),
+            birth: none,
+            commencement: none,
             count: 0,
         },
         pensions: [no_pension(); 4],

@@ -6,7 +6,7 @@ ghost use Prim.Native.Nat.{_+_, _*_, _%_, _^_, _≤_, _<_};
 ghost use lib.ListN.{getD};
 ghost use Rattle.split.specs.Frame.{hexValue, noDigit, digitAt, numberAt, dateAt, badCharacter};
 ghost use Rattle.split.specs.Case.{longestLine};
-ghost use Rattle.split.specs.Digits.{Values, Digits, FieldOf};
+ghost use Rattle.split.specs.Digits.{Values, Digits, Taken, numberOf};
 
 // The characters of a head, of a pension, and of the longest case line.
 pub const HEAD_LENGTH: usize = 26;
@@ -128,7 +128,7 @@ impl Cursor {
     // A number of one byte.
     pub fn byte(self, digits: &[u8]) -> ByteField
         requires { ⌜ (self .at + 2 ≤ longestLine) × Values (now digits) ⌝ }
-        ensures { λ r. ⌜ FieldOf (now (digits .entry)) (r .value) (λ s. numberAt s (self .at) 2) × (r .next .at ≡ self .at + 2) ⌝ }
+        ensures { λ r. ⌜ Taken (now (digits .entry)) (self .at) (numberOf 2) 2 (r .value) (r .next .at) ⌝ }
     {
         let at = self.at;
         ByteField {
@@ -140,7 +140,7 @@ impl Cursor {
     // A number of two bytes.
     pub fn short(self, digits: &[u8]) -> ShortField
         requires { ⌜ (self .at + 4 ≤ longestLine) × Values (now digits) ⌝ }
-        ensures { λ r. ⌜ FieldOf (now (digits .entry)) (r .value) (λ s. numberAt s (self .at) 4) × (r .next .at ≡ self .at + 4) ⌝ }
+        ensures { λ r. ⌜ Taken (now (digits .entry)) (self .at) (numberOf 4) 4 (r .value) (r .next .at) ⌝ }
     {
         let at = self.at;
         let high = pair(digits, at) as u16;
@@ -154,7 +154,7 @@ impl Cursor {
     // A number of four bytes.
     pub fn number(self, digits: &[u8]) -> NumberField
         requires { ⌜ (self .at + 8 ≤ longestLine) × Values (now digits) ⌝ }
-        ensures { λ r. ⌜ FieldOf (now (digits .entry)) (r .value) (λ s. numberAt s (self .at) 8) × (r .next .at ≡ self .at + 8) ⌝ }
+        ensures { λ r. ⌜ Taken (now (digits .entry)) (self .at) (numberOf 8) 8 (r .value) (r .next .at) ⌝ }
     {
         let high = self.short(digits);
         let after_high = high.next;
@@ -169,7 +169,7 @@ impl Cursor {
     // A date: two bytes of year, one of month, one of day.
     pub fn date(self, digits: &[u8]) -> DateField
         requires { ⌜ (self .at + 8 ≤ longestLine) × Values (now digits) ⌝ }
-        ensures { λ r. ⌜ FieldOf (now (digits .entry)) (r .value) (λ s. dateAt s (self .at)) × (r .next .at ≡ self .at + 8) ⌝ }
+        ensures { λ r. ⌜ Taken (now (digits .entry)) (self .at) dateAt 8 (r .value) (r .next .at) ⌝ }
     {
         let year = self.short(digits);
         let after_year = year.next;

@@ -1,5 +1,4 @@
 -- `read_case` is the definition `caseOf`: the characters first, then the length, then the pensions.
-use Prim.Native.Nat.{_≤_}
 use borrow.Author.Needs.{needs}
 use mathlib.Core.Bool.{false}
 use mathlib.Core.Path.{_≡_, sym, _∙_}
@@ -22,7 +21,8 @@ digits c = sym (c .before .has-bad-character .ensures) ∙ c .if1 .left
 -- and the values that are read from its digits are those of the line
 headed : (c : tie.After-read-head)
     → c .read-head .result .value ≡ headOf (c .before .before .before .before .before .before .args .line .now)
-headed c = c .read-head .ensures .0 _ (c .before .before .decode .ensures)
+unfolding headOf
+headed c = c .read-head .ensures .value _ (c .before .before .decode .ensures)
 
 returns-2 : tie.Need-returns-2
 returns-2 c =
@@ -41,7 +41,7 @@ read-pensions-requires : tie.Need-read-pensions-requires
 read-pensions-requires c κs =
     let e = c .before .before in
     let r = e .before .before .before in
-    (r .read-head .ensures .1, count-listed _ _ (measured e), r .before .before .decode .ensures .values)
+    (r .read-head .ensures .next, count-listed _ _ (measured e), r .before .before .decode .ensures .values)
 
 returns-3 : tie.Need-returns-3
 returns-3 c =

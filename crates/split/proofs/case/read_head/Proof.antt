@@ -10,7 +10,7 @@ returns c =
     let commencement = count .before .before in
     let birth = commencement .before .before in
     let member = birth .before .before in
-    head-read (member .before .before .args .at .at) (member .before .before .pre .0) (member .number .ensures)
+    head-read (member .number .ensures)
     (birth .date .ensures) (commencement .date2 .ensures) (count .byte .ensures)
 
 pub read-head-spec : {M : Type 1} → statement M

@@ -11,7 +11,7 @@ returns c =
     let service = lift .before .before in
     let stated = service .before .before in
     let kind = stated .before .before in
-    pension-read (kind .before .before .args .at .at) (kind .byte .ensures) (stated .number .ensures)
+    pension-read (kind .byte .ensures) (stated .number .ensures)
     (service .read-service .ensures) (lift .byte2 .ensures) (terms .read-terms .ensures)
 
 pub read-pension-spec : {M : Type 1} → statement M

@@ -1,8 +1,7 @@
 -- `read_pensions` reads the pensions one by one: the first `i` are those of the definition `pensionsAt`, none is in the other
 -- places, and the cursor stands where a line of `i` pensions ends.
 use Prim.Native.Nat.{ℕ, _-_, _≤_, _<_, zero-le}
-use mathlib.Core.Path.{_≡_, _∙_, ap}
-use native.Mathlib.Nat.{lt-of-lt-of-le}
+use mathlib.Core.Path.{_≡_, ap}
 use native.Mathlib.Numerals.{add-one-le}
 use native.Mathlib.Omega.{arith}
 use lib.ListN.{replicate}
@@ -36,7 +35,7 @@ loop-again c =
       add-one-le (test .loop-test .taken),
       omega arith,
       pensions-stored _ (l .pensions) (l .i) (l .next .at) (read .read-pension .result .value) place (l .inv .1) (l .inv .2)
-          (read .read-pension .ensures .0),
+          (read .read-pension .ensures .value),
     )
 
 returns : tie.Need-returns Inv-loop μ-loop

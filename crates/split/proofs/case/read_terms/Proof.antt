@@ -10,7 +10,7 @@ returns c =
     let f3 = increase .before .before in
     let f2 = f3 .before .before in
     let f1 = f2 .before .before in
-    terms-read (f1 .before .before .args .at .at) (f1 .short .ensures) (f2 .short2 .ensures) (f3 .short3 .ensures)
+    terms-read (f1 .short .ensures) (f2 .short2 .ensures) (f3 .short3 .ensures)
     (increase .short4 .ensures)
 
 pub read-terms-spec : {M : Type 1} → statement M

@@ -1,4 +1,4 @@
--- `refused_case` is the definition `refusedCase`, with its zeros from their functions.
+-- `refused_case` is the definition `refusedCase`, with no pension from its function.
 use borrow.Author.Needs.{needs}
 use Rattle.split.specs.Reading.{refusedCase}
 use Rattle.split.proofs.case.refused_case.Statement.{statement}
@@ -9,4 +9,4 @@ unfolding refusedCase
 returns c = cc
 
 pub refused-case-spec : {M : Type 1} → statement M
-refused-case-spec = tie.close (tie.spec (search needs) (search needs) (search needs) returns)
+refused-case-spec = tie.close (tie.spec (search needs) returns)

@@ -9,7 +9,7 @@ returns c =
     let day = c .before in
     let month = day .before .before in
     let year = month .before .before in
-    date-read (year .before .before .args .self .at) (year .short .ensures) (month .byte .ensures) (day .byte2 .ensures)
+    date-read (year .short .ensures) (month .byte .ensures) (day .byte2 .ensures)
 
 pub date-spec : {M : Type 1} → statement M
 date-spec = tie.close (tie.spec (λ c κs. search needs) (λ c κs. search needs) (λ c κs. search needs) returns)

@@ -10,11 +10,9 @@ use Rattle.split.proofs.frame.Cursor.short.Tie as tie
 returns : tie.Need-returns
 returns c =
     let high = c .before in
-    let at = high .before .before .args .self .at in (
-      number-joined at 2 (pair-read at (omega arith) (high .pair .ensures)) refl
-          (pair-read (at + 2) (omega arith) (c .pair2 .ensures)),
-      refl,
-    )
+    let at = high .before .before .args .self .at in
+    number-joined (pair-read at (omega arith) (high .pair .ensures) refl)
+    (pair-read (at + 2) (omega arith) (c .pair2 .ensures) (omega arith))
 
 pub short-spec : {M : Type 1} → statement M
 short-spec =
