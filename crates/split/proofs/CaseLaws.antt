@@ -9,10 +9,9 @@ use native.Mathlib.Omega.{arith}
 use lib.ListN.{length, set, length-append}
 use Rattle.calendar.specs.declared.Date.{Date}
 use Rattle.factors.specs.declared.effective.FactorTerms.{FactorTerms}
-use Rattle.split.specs.declared.case.Head.{Head}
 use Rattle.split.specs.declared.case.Pension.{Pension}
 use Rattle.split.specs.declared.case.Service.{Service}
-use Rattle.split.specs.Frame.{numberAt, dateAt}
+use Rattle.split.specs.Frame.{dateAt}
 use Rattle.split.specs.Case.{headAt, serviceAt, termsAt, pensionAt, pensionsAt, placesAt, noPension, headLength, pensionLength, caseLength}
 use Rattle.split.specs.Digits.{FieldOf, Taken, numberOf}
 use Rattle.split.proofs.ListLaws.{store-next}

@@ -18,7 +18,7 @@ use Rattle.calendar.specs.Calendar.{date}
 use Rattle.factors.proofs.Table.{below-at}
 use Rattle.split.specs.Frame.{noDigit, badCharacter, digitAt, numberAt, dateAt, hexValue}
 use Rattle.split.specs.Case.{longestLine}
-use Rattle.split.specs.Digits.{Digits, FieldOf, Taken, numberOf}
+use Rattle.split.specs.Digits.{Digits, Taken, numberOf}
 use Rattle.calendar.proofs.TestLaws.{any-none}
 
 pub digit-below : (s : List ℕ) (at : ℕ) → digitAt s at < 16
