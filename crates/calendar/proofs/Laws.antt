@@ -93,7 +93,7 @@ calendar-range d h =
 
 -- where the age is 660 to 719 months, there are 0 to 60 months to the 60th birthday
 pub months-to-sixtieth : (birth at : Date) → 660 ≤ months birth at → months birth at < 720 → months at (sixtiethBirthday birth) ≤ 60
-unfolding months monthIndex incomplete sixtiethBirthday
+unfolding months monthIndex sixtiethBirthday
 months-to-sixtieth birth at low high = omega arith
 
 -- and the birthday has not passed, so that no difference of that count is cut off at 0
