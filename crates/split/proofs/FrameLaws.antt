@@ -17,7 +17,8 @@ use borrow.Author.Tests.{eqb-true}
 use Rattle.calendar.specs.Calendar.{date}
 use Rattle.factors.proofs.Table.{below-at}
 use Rattle.split.specs.Frame.{noDigit, badCharacter, digitAt, numberAt, dateAt, hexValue}
-use Rattle.split.specs.Parts.{Digits}
+use Rattle.split.specs.Case.{longestLine}
+use Rattle.split.specs.Digits.{Digits, Taken, numberOf}
 use Rattle.calendar.proofs.TestLaws.{any-none}
 
 pub digit-below : (s : List ℕ) (at : ℕ) → digitAt s at < 16
@@ -75,7 +76,7 @@ number-past s at (suc n) h =
 
 -- the first i digits of a line are worked out, and zeros stand behind them
 pub record Decoded (s d : List ℕ) (i : ℕ) : Type 0 where
-  pub size : length d ≡ 202
+  pub size : length d ≡ longestLine
   pub passed : (j : ℕ) → j < i → getD d j 0 ≡ digitAt s j
   pub rest : (j : ℕ) → i ≤ j → getD d j 0 ≡ 0
 
@@ -84,11 +85,11 @@ zeros zero j = refl
 zeros (suc n) zero = refl
 zeros (suc n) (suc j) = zeros n j
 
-pub decoded-none : {s : List ℕ} → Decoded s (replicate 202 0) 0
-decoded-none = record { size = refl; passed = λ j h. absurd (omega arith); rest = λ j h. zeros 202 j }
+pub decoded-none : {s : List ℕ} → Decoded s (replicate longestLine 0) 0
+decoded-none = record { size = refl; passed = λ j h. absurd (omega arith); rest = λ j h. zeros longestLine j }
 
 -- one more
-pub decoded-more : {s d : List ℕ} {i v : ℕ} → Decoded s d i → i < 202 → v ≡ digitAt s i → Decoded s (set d i v) (i + 1)
+pub decoded-more : {s d : List ℕ} {i v : ℕ} → Decoded s d i → i < longestLine → v ≡ digitAt s i → Decoded s (set d i v) (i + 1)
 decoded-more {s} {d} {i} {v} done h e =
     let other : (j : ℕ) → (j ≡ i → ⊥) → getD (set d i v) j 0 ≡ getD d j 0 = λ j n. getD-set-other d i j v 0 n in
     record {
@@ -100,7 +101,7 @@ decoded-more {s} {d} {i} {v} done h e =
     }
 
 -- all, where as many are worked out as the line has, or as the longest
-pub decoded-all : {s d : List ℕ} {i : ℕ} → Decoded s d i → min (length s) 202 ≤ i → Digits s d
+pub decoded-all : {s d : List ℕ} {i : ℕ} → Decoded s d i → min (length s) longestLine ≤ i → Digits s d
 unfolding digitAt hexValue
 decoded-all {s} {d} {i} done past =
     record {
@@ -124,27 +125,32 @@ number-split s at m zero = rw (add-zero m) (omega arith)
 number-split s at m (suc n) =
     rw (add-suc, numberAt, pow-suc, ← add-assoc at m n, ← mul-assoc) (omega (arith, number-split s at m n))
 
--- what digit values say of every line whose digits they are
-abbrev pub Of : {A : Type 0} → List ℕ → A → (List ℕ → A) → Type 0
-Of d value f = (s : List ℕ) → Digits s d → value ≡ f s
-
 -- two digits make a byte
-pub pair-read : (d : List ℕ) (at v : ℕ) → at ≤ 200 → v ≡ getD d at 0 * 16 + getD d (at + 1) 0
-    → Of d v (λ s. numberAt s at 2)
+pub pair-read : {d : List ℕ} {v end : ℕ} (at : ℕ) → at + 2 ≤ longestLine → v ≡ getD d at 0 * 16 + getD d (at + 1) 0
+    → end ≡ at + 2 → Taken d at (numberOf 2) 2 v end
 unfolding numberAt
-pair-read d at v h e s digits =
-    e ∙ simp add-zero (omega (arith, digits .each at (omega arith), digits .each (at + 1) (omega arith)))
+pair-read at h e moved =
+    record {
+      value = λ s digits.
+          e ∙ simp add-zero (omega (arith, digits .each at (omega arith), digits .each (at + 1) (omega arith)));
+      next = moved;
+    }
 
 -- and two numbers of as many digits one of twice as many
-pub number-joined : (d : List ℕ) (at at₁ n high low : ℕ) → Of d high (λ s. numberAt s at n) → at₁ ≡ at + n
-    → Of d low (λ s. numberAt s at₁ n) → Of d (high * 16 ^ n + low) (λ s. numberAt s at (n + n))
-number-joined d at at₁ n high low a e b s digits =
-    rw (a s digits, b s digits, e) (sym (number-split s at n n))
+pub number-joined : {d : List ℕ} {at at₁ at₂ n high low : ℕ} → Taken d at (numberOf n) n high at₁
+    → Taken d at₁ (numberOf n) n low at₂ → Taken d at (numberOf (n + n)) (n + n) (high * 16 ^ n + low) at₂
+number-joined {at = at} {n = n} a b =
+    record {
+      value = λ s digits. rw (a .value s digits, b .value s digits, a .next) (sym (number-split s at n n));
+      next = omega arith;
+    }
 
 -- a date is read part by part
-pub date-read : (d : List ℕ) (at at₁ at₂ at₃ year month day : ℕ) → Of d year (λ s. numberAt s at 4) × (at₁ ≡ at + 4)
-    → Of d month (λ s. numberAt s at₁ 2) × (at₂ ≡ at₁ + 2) → Of d day (λ s. numberAt s at₂ 2) × (at₃ ≡ at₂ + 2)
-    → Of d (date year month day) (λ s. dateAt s at) × (at₃ ≡ at + 8)
+pub date-read : {d : List ℕ} {at at₁ at₂ at₃ year month day : ℕ} → Taken d at (numberOf 4) 4 year at₁
+    → Taken d at₁ (numberOf 2) 2 month at₂ → Taken d at₂ (numberOf 2) 2 day at₃ → Taken d at dateAt 8 (date year month day) at₃
 unfolding dateAt
-date-read d at at₁ at₂ at₃ year month day y m e =
-    (λ s digits. cc (add-assoc at 4 2, y .0 s digits, m .0 s digits, e .0 s digits), omega arith)
+date-read {at = at} y m e =
+    record {
+      value = λ s digits. cc (add-assoc at 4 2, y .value s digits, m .value s digits, e .value s digits);
+      next = omega arith;
+    }

@@ -1,5 +1,6 @@
 -- `XLaws` has laws of the definitions of specs/X; `XLoop` has what one turn of a loop of src/ does, in the code's numbers;
--- every other file is named for the argument it makes.
+-- every other file is named for the argument it makes. The exception is HexLaws: of specs/Frame, numbers written and read
+-- back.
 pub mod Accepted
 pub mod BenefitsLaws
 pub mod Best
@@ -16,6 +17,7 @@ pub mod Prices
 pub mod QuoteLaws
 pub mod QuotingLoop
 pub mod RangesLaws
+pub mod ReadingLaws
 pub mod RefusalLoop
 pub mod Rows
 pub mod Served

@@ -2,58 +2,35 @@
 -- the best. A case that is not refused is accepted and has at most four pensions, so that every share of its grant is in
 -- range and the four places are its lumps and zeros. Assumes nothing.
 use Prim.Native.Nat.{ℕ, zero, suc, _+_, _-_, _*_, _/_, _≤_, _<_}
-use mathlib.Core.Bool.{Bool, true, false, cond, not, _||_, false≢true}
+use mathlib.Core.Bool.{Bool, true, false, cond}
 use mathlib.Core.List.{List, [], _∷_, _++_}
 use mathlib.Core.Path.{_≡_, refl, sym, _∙_, ap}
-use native.Mathlib.Decide.{decLe}
 use native.Mathlib.Nat.{mul-le-mul-left, div-le-of-le-mul}
 use native.Mathlib.Omega.{arith}
 use lib.Dec.{eqb}
 use lib.ListN.{length, take, replicate, length-append, length-replicate}
 use lib.Seq.{take-at, drop-at}
-use borrow.Author.Tests.{eqb-true, eqb-false, ne-eqb, not-false}
+use borrow.Author.Tests.{eqb-true}
 use Rattle.split.specs.declared.case.Head.{Head}
 use Rattle.split.specs.declared.case.Pension.{Pension}
+use Rattle.split.specs.declared.case.Case.{Case}
 use Rattle.split.specs.declared.answers.Share.{Share}
 use Rattle.split.specs.declared.answers.Quote.{Quote}
-use Rattle.split.specs.Case.{headOf, pensionAt, pensionsAt, pensionsOf}
+use Rattle.split.specs.Case.{headAt, headOf, pensionsOf}
 use Rattle.split.specs.Frame.{badCharacter}
 use Rattle.split.specs.Refusal.{badLength, conditions, refusalOf}
 use Rattle.calendar.specs.Tests.{lowest}
+use Rattle.split.specs.Reading.{caseOf}
 use Rattle.split.specs.Benefits.{workedTerms, benefitOf, benefitsOf}
 use Rattle.split.specs.Limits.{total, WithinCaps, Best}
 use Rattle.split.specs.Quote.{remainingOf, secondOf, shareOf, noShare, sharesOf, lumpsGranted, grantedQuote, refusedQuote, quoteOf, lumpsIn, BestLumps, SharesFit, QuoteFits}
-use Rattle.calendar.proofs.TestLaws.{or-left, or-right, lowest-none}
+use Rattle.calendar.proofs.TestLaws.{lowest-none}
 use Rattle.split.proofs.FrameLaws.{number-below}
+use Rattle.split.proofs.CaseLaws.{pensions-counted}
+use Rattle.split.proofs.ReadingLaws.{by-zero, count-listed, Read, case-unread}
 use Rattle.split.proofs.Best.{grant-best}
 use Rattle.split.proofs.LimitsLaws.{total-capped}
 use Rattle.split.proofs.Accepted.{AcceptedPension, Accepted, case-accepted, deferred-terms, accepted-rest, accepted-tops, accepted-caps, accepted-pensions}
-
--- a line of a listed length that agrees with its count has at most four pensions
-pub count-listed : (characters n : ℕ) → badLength characters n ≡ false → n ≤ 4
-unfolding badLength
-count-listed characters n e =
-    let counted = eqb-true characters (26 + 44 * n) (not-false _ (or-right (not listed) _ e)) in
-    elim (decLe characters 202) [
-      | yes h ↦ omega arith
-      | no h ↦ absurd (false≢true
-          (simp (
-            ne-eqb characters 70 (omega arith),
-            ne-eqb characters 114 (omega arith),
-            ne-eqb characters 158 (omega arith),
-            ne-eqb characters 202 (omega arith),
-          ) at (not-false listed (or-left (not listed) _ e))))
-    ]
-  where
-    listed : Bool
-    listed = eqb characters 70 || eqb characters 114 || (eqb characters 158 || eqb characters 202)
-
--- as many pensions as are counted
-pensions-counted : (s : List ℕ) (n : ℕ) → length (pensionsAt s n) ≡ n
-unfolding pensionsAt
-pensions-counted s zero = refl
-pensions-counted s (suc n) =
-    omega (arith, pensions-counted s n, length-append (pensionsAt s n) (pensionAt s (26 + 44 * n) ∷ []))
 
 -- a second instalment is at most its lump
 second-at-most : (h : Head) (p : Pension) (lump : ℕ) → AcceptedPension h p → secondOf p lump ≤ lump
@@ -159,7 +136,7 @@ places-counted s g =
 
 -- every figure of a grant fits
 member-fits : (s : List ℕ) → headOf s .member < 4294967296
-unfolding headOf
+unfolding headOf headAt
 member-fits s = number-below s 0 8
 
 granted-fits : (s : List ℕ) → GrantedCase s → QuoteFits (grantedQuote (headOf s) (pensionsOf s))
@@ -203,11 +180,8 @@ granted-best s g =
 by-refusal : (P : Quote → Type 0) (s : List ℕ) → (refusalOf s ≡ 0 → P (grantedQuote (headOf s) (pensionsOf s)))
     → ((refusalOf s ≡ 0 → ⊥) → P (refusedQuote (refusalOf s))) → P (quoteOf s)
 unfolding quoteOf
-by-refusal P s granting refusing = go (eqb (refusalOf s) 0) refl
-  where
-    go : (b : Bool) → eqb (refusalOf s) 0 ≡ b → P (cond b (grantedQuote (headOf s) (pensionsOf s)) (refusedQuote (refusalOf s)))
-    go true e = granting (eqb-true (refusalOf s) 0 e)
-    go false e = refusing (eqb-false (refusalOf s) 0 e)
+by-refusal P s granting refusing =
+    by-zero P (refusalOf s) (grantedQuote (headOf s) (pensionsOf s)) (refusedQuote (refusalOf s)) granting refusing
 
 refused-as : (s : List ℕ) (r : ℕ) → (r ≡ 0 → ⊥) → refusalOf s ≡ r → refusedQuote r ≡ quoteOf s
 refused-as s r some e =
@@ -231,40 +205,26 @@ quote-best s e =
     by-refusal (λ q. BestLumps s (lumpsIn (q .shares)) (q .total .0)) s (λ z. granted-best s (case-granted s z))
     (λ ne. absurd (ne e))
 
--- a line with a bad character is refused
-pub quote-bad-character : (s : List ℕ) (q : Quote) → badCharacter s ≡ true → q ≡ refusedQuote 1 → q ≡ quoteOf s
-unfolding refusalOf
-quote-bad-character s q bad made = made ∙ refused-as s 1 (λ e. omega arith) (simp (refusalOf, bad))
+-- a line of which no case can be read is refused
+pub quote-unread : (s : List ℕ) (c : Case) (q : Quote) → c ≡ caseOf s → (c .refusal ≡ 0 → ⊥) → q ≡ refusedQuote (c .refusal)
+    → q ≡ quoteOf s
+quote-unread s c q made some refused = refused ∙ refused-as s (c .refusal) some (case-unread s c made some)
 
--- refused by its length
-pub quote-bad-length : (s : List ℕ) (h : Head) → badCharacter s ≡ false → h ≡ headOf s → (q : Quote)
-    → badLength (length s) (h .count) ≡ true → q ≡ refusedQuote 2 → q ≡ quoteOf s
-unfolding refusalOf
-quote-bad-length s h digits read q bad made =
-    made ∙ refused-as s 2 (λ e. omega arith) (simp (refusalOf, digits, rw read at bad))
-
--- what the code has read of a line of digits and of a right length, and the refusal of its case
-pub record Judged (s : List ℕ) (h : Head) (ps : List Pension) (refused : ℕ) : Type 0 where
-  pub digits : badCharacter s ≡ false
-  pub head : h ≡ headOf s
-  pub measured : badLength (length s) (h .count) ≡ false
-  pub taken : take (h .count) ps ≡ pensionsAt s (h .count)
-  pub lowest-of : refused ≡ lowest 3 (conditions h (take (h .count) ps))
-
-module _ {s : List ℕ} {h : Head} {ps : List Pension} {refused : ℕ} (judged : Judged s h ps refused) where
+-- what the code has read of a line, and the refusal of its case
+module _ {s : List ℕ} {c : Case} {refused : ℕ} (read : Read s c)
+    (judged : refused ≡ lowest 3 (conditions (c .head) (take (c .head .count) (c .pensions)))) where
   case-of : refusalOf s ≡ refused
-  unfolding refusalOf
   case-of =
-      simp (refusalOf, judged .digits, rw (judged .head) at (judged .measured))
-      (sym (judged .lowest-of ∙ ap (λ (l : List Pension). lowest 3 (conditions h l)) (judged .taken)
-      ∙ ap (λ (k : Head). lowest 3 (conditions k (pensionsAt s (k .count)))) (judged .head)))
+      read .judged
+      ∙ sym (judged ∙ ap (λ (l : List Pension). lowest 3 (conditions (c .head) l)) (read .taken)
+      ∙ ap (λ (h : Head). lowest 3 (conditions h (pensionsOf s))) (read .head))
 
   -- refused by its case
   pub quote-refused : (q : Quote) → (refused ≡ 0 → ⊥) → q ≡ refusedQuote refused → q ≡ quoteOf s
   quote-refused q some made = made ∙ refused-as s refused some case-of
 
   -- granted
-  pub quote-granted : (q : Quote) → refused ≡ 0 → q ≡ grantedQuote h (take (h .count) ps) → q ≡ quoteOf s
+  pub quote-granted : (q : Quote) → refused ≡ 0 → q ≡ grantedQuote (c .head) (take (c .head .count) (c .pensions)) → q ≡ quoteOf s
   quote-granted q passed made =
-      made ∙ ap (λ (l : List Pension). grantedQuote h l) (judged .taken)
-      ∙ ap (λ (k : Head). grantedQuote k (pensionsAt s (k .count))) (judged .head) ∙ granted-as s (case-of ∙ passed)
+      made ∙ ap (λ (l : List Pension). grantedQuote (c .head) l) (read .taken)
+      ∙ ap (λ (h : Head). grantedQuote h (pensionsOf s)) (read .head) ∙ granted-as s (case-of ∙ passed)

@@ -1,11 +1,11 @@
 -- What a turn of the loops that make a quote does: the sum of the lumps grows by a row, and a share stored at its place
 -- makes the shares one longer, with no share in the places after them. Assumes nothing.
-use Prim.Native.Nat.{ℕ, suc, _+_, _-_, _≤_, _<_}
-use mathlib.Core.List.{List, [], _∷_, _++_, map-append, append-assoc}
+use Prim.Native.Nat.{ℕ, _+_, _-_, _≤_, _<_}
+use mathlib.Core.List.{List, [], _∷_, _++_, map-append}
 use mathlib.Core.Path.{_≡_, refl, _∙_}
 use native.Mathlib.Omega.{arith}
 use lib.ListN.{length, getD, take, set, replicate, length-take, length-map}
-use lib.Seq.{length-take-le, set-at}
+use lib.Seq.{length-take-le}
 use Rattle.calendar.specs.Sums.{sumOf}
 use Rattle.split.specs.declared.case.Head.{Head}
 use Rattle.split.specs.declared.case.Pension.{Pension}
@@ -15,20 +15,13 @@ use Rattle.split.specs.Case.{noPension}
 use Rattle.split.specs.Limits.{total}
 use Rattle.split.specs.Grant.{noRow, rowAt, lumpsOf}
 use Rattle.split.specs.Quote.{shareOf, noShare, sharesOf, padded}
-use Rattle.split.proofs.ListLoop.{take-next}
+use Rattle.split.proofs.ListLoop.{store-next, take-next}
 use Rattle.split.proofs.QuoteLaws.{shares-counted, shares-more}
 
 -- the total of lumps is the sum over their rows
 pub lumps-total : (rs : List Row) → total (lumpsOf rs) ≡ sumOf (λ r. r .lump .0) rs
 lumps-total [] = refl
 lumps-total (r ∷ rs) = omega (arith, lumps-total rs)
-
--- a store just past a part that others follow
-store-next : {A : Type 0} (xs : List A) (n i : ℕ) (x z : A) → length xs ≡ i → i < n
-    → set (xs ++ replicate (n - i) z) i x ≡ (xs ++ (x ∷ [])) ++ replicate (n - (i + 1)) z
-store-next xs n i x z counted h =
-    let left : n - i ≡ suc (n - (i + 1)) = omega arith in
-    rw (left, set-at xs z (replicate (n - (i + 1)) z) x i counted, append-assoc)
 
 -- as many lumps as pensions in the first places
 parts-counted : (ps : List Pension) (rs : List Row) (n : ℕ) → length ps ≡ 4 → length rs ≡ 4

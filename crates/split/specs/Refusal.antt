@@ -1,8 +1,8 @@
 -- Refusals 1 to 10 ("Refusals from the input" of document 01): ten conditions in its order, of which the lowest that
 -- holds is the refusal. Conditions on a pension hold of a case where they hold of some pension. Assumes nothing.
-use Prim.Native.Nat.{ℕ, _+_, _*_}
+use Prim.Native.Nat.{ℕ, _+_}
 use mathlib.Core.Bool.{Bool, cond, not, _&&_, _||_}
-use mathlib.Core.List.{List, [], _∷_}
+use mathlib.Core.List.{List, [], _∷_, _++_}
 use lib.Dec.{leb, ltb, eqb}
 use lib.ListN.{length}
 use Rattle.calendar.specs.Calendar.{inCalendar, earlier, months}
@@ -12,17 +12,23 @@ use Rattle.factors.specs.declared.effective.FactorTerms.{FactorTerms}
 use Rattle.split.specs.declared.case.Head.{Head}
 use Rattle.split.specs.declared.case.Pension.{Pension}
 use Rattle.split.specs.Frame.{badCharacter}
-use Rattle.split.specs.Case.{headOf, pensionsOf}
+use Rattle.split.specs.Case.{headOf, pensionsOf, caseLength}
 
 -- "Age is months from birth to commencement"
 unfoldable pub ageOf : Head → ℕ
 ageOf h = months (h .birth) (h .commencement)
 
--- 2. "Length is not 70, 114, 158 or 202, or n disagrees with it": "A line has 26 + 44n characters"
+-- 2. "Length is not 70, 114, 158 or 202, or n disagrees with it": not that of the 1 to 4 pensions that n counts
 unfoldable pub badLength : ℕ → ℕ → Bool
-badLength characters n =
-    not (eqb characters 70 || eqb characters 114 || (eqb characters 158 || eqb characters 202)) ||
-    not (eqb characters (26 + 44 * n))
+badLength characters n = not (within 1 4 n && eqb characters (caseLength n))
+
+-- conditions 1 and 2 of a line, in their order
+abbrev pub lineConditions : List ℕ → List Bool
+lineConditions s = badCharacter s ∷ badLength (length s) (headOf s .count) ∷ []
+
+-- the refusal of a line of which no case can be read
+unfoldable pub lineRefusal : List ℕ → ℕ
+lineRefusal s = lowest 1 (lineConditions s)
 
 -- 3. "A date is not in the calendar": of the head, and of a pension
 unfoldable pub undatedHead : Head → Bool
@@ -97,6 +103,4 @@ conditions h ps = conditionsWith (ltb 50000000 (totalStated ps)) h ps
 
 -- the refusal of a line
 unfoldable pub refusalOf : List ℕ → ℕ
-refusalOf s =
-    lowest 1
-    (badCharacter s ∷ badLength (length s) (headOf s .count) ∷ conditions (headOf s) (pensionsOf s))
+refusalOf s = lowest 1 (lineConditions s ++ conditions (headOf s) (pensionsOf s))

@@ -1,6 +1,7 @@
 // Refusals 2 to 10: the length of a line, and the lowest condition that holds of its case.
 use crate::case::Head;
 use crate::case::Pension;
+use crate::frame;
 use factors::effective::FactorTerms;
 ghost use mathlib.Core.Path.{_≡_};
 ghost use mathlib.Core.Bool.{false};
@@ -20,10 +21,9 @@ fn is_within(low: u32, high: u32, x: u32) -> bool
 pub fn has_bad_length(characters: usize, n: u8) -> bool
     ensures { λ r. ⌜ r ≡ badLength characters n ⌝ }
 {
-    let wanted = 26 + 44 * (n as usize);
-    let short = (characters == 70) | (characters == 114);
-    let long = (characters == 158) | (characters == 202);
-    !(short | long) | !(characters == wanted)
+    let counted = is_within(1, 4, n as u32);
+    let wanted = frame::HEAD_LENGTH + frame::PENSION_LENGTH * (n as usize);
+    !(counted & (characters == wanted))
 }
 
 fn is_undated_head(head: Head) -> bool

@@ -8,9 +8,7 @@ returns : tie.Need-returns
 returns c =
     let end = c .before .before .before in
     let start = end .before .before in
-    let args = start .before .before .args in
-    service-read (args .digits .now) (args .at .at) (start .date .result .next .at) (end .date2 .result .next .at)
-    (start .date .result .value) (end .date2 .result .value) (start .date .ensures) (end .date2 .ensures)
+    service-read (start .date .ensures) (end .date2 .ensures)
 
 pub read-service-spec : {M : Type 1} → statement M
 read-service-spec = tie.close (tie.spec (λ c κs. search needs) (λ c κs. search needs) returns)

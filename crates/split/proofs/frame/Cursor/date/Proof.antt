@@ -9,10 +9,7 @@ returns c =
     let day = c .before in
     let month = day .before .before in
     let year = month .before .before in
-    let args = year .before .before .args in
-    date-read (args .digits .now) (args .self .at) (year .short .result .next .at) (month .byte .result .next .at)
-    (day .byte2 .result .next .at) (year .short .result .value) (month .byte .result .value) (day .byte2 .result .value)
-    (year .short .ensures) (month .byte .ensures) (day .byte2 .ensures)
+    date-read (year .short .ensures) (month .byte .ensures) (day .byte2 .ensures)
 
 pub date-spec : {M : Type 1} → statement M
 date-spec = tie.close (tie.spec (λ c κs. search needs) (λ c κs. search needs) (λ c κs. search needs) returns)
