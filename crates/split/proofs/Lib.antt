@@ -6,6 +6,7 @@ pub mod BenefitsLaws
 pub mod Best
 pub mod CaseLaws
 pub mod ConditionsLaws
+pub mod DigitsLaws
 pub mod Figures
 pub mod FrameLaws
 pub mod GrantLoop

@@ -1,17 +1,19 @@
--- `read_head` is the definition `headOf`, field by field.
+-- `read_head` is the definition `headAt`, field by field.
 use borrow.Author.Needs.{needs}
-use Rattle.split.proofs.CaseLaws.{head-read}
+use Rattle.split.specs.Case.{headAt}
+use Rattle.split.proofs.DigitsLaws.{made-of, _then_}
 use Rattle.split.proofs.case.read_head.Statement.{statement}
 use Rattle.split.proofs.case.read_head.Tie as tie
 
 returns : tie.Need-returns
+unfolding headAt
 returns c =
     let count = c .before .before .before in
     let commencement = count .before .before in
     let birth = commencement .before .before in
     let member = birth .before .before in
-    head-read (member .number .ensures)
-    (birth .date .ensures) (commencement .date2 .ensures) (count .byte .ensures)
+    made-of (λ m b d n. record { member = m; birth = b; commencement = d; count = n }) (member .number .ensures)
+    then birth .date .ensures then commencement .date2 .ensures then count .byte .ensures
 
 pub read-head-spec : {M : Type 1} → statement M
 read-head-spec =

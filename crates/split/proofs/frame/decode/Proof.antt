@@ -7,7 +7,8 @@ use lib.ListN.{length}
 use borrow.Author.Needs.{needs}
 use Rattle.split.specs.Frame.{digitAt}
 use Rattle.split.specs.Case.{longestLine}
-use Rattle.split.proofs.FrameLaws.{Decoded, decoded-none, decoded-more, decoded-all, digit-known}
+use Rattle.split.proofs.FrameLaws.{digit-known}
+use Rattle.split.proofs.DigitsLaws.{Decoded, decoded-none, decoded-more, decoded-all}
 use Rattle.split.proofs.frame.decode.Statement.{statement}
 use Rattle.split.proofs.frame.decode.Tie as tie
 

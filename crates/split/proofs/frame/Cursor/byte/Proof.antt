@@ -1,7 +1,7 @@
 -- `byte` is a number of 2 digits: a pair of them.
 use mathlib.Core.Path.{refl}
 use borrow.Author.Needs.{needs}
-use Rattle.split.proofs.FrameLaws.{pair-read}
+use Rattle.split.proofs.DigitsLaws.{pair-read}
 use Rattle.split.proofs.frame.Cursor.byte.Statement.{statement}
 use Rattle.split.proofs.frame.Cursor.byte.Tie as tie
 

@@ -3,7 +3,7 @@ use Prim.Native.Nat.{_+_}
 use mathlib.Core.Path.{refl}
 use native.Mathlib.Omega.{arith}
 use borrow.Author.Needs.{needs}
-use Rattle.split.proofs.FrameLaws.{pair-read, number-joined}
+use Rattle.split.proofs.DigitsLaws.{pair-read, number-joined}
 use Rattle.split.proofs.frame.Cursor.short.Statement.{statement}
 use Rattle.split.proofs.frame.Cursor.short.Tie as tie
 
