@@ -1,7 +1,6 @@
 -- Laws of dates for the crates above: what they cite instead of the definitions' text. `earlier` is a
--- strict order; months from a date to itself are 0, between dates of the calendar they are bounded, and
--- they never pass a bound to the 60th birthday that the age gives. Assumes nothing.
-use mathlib.Core.Path.{_≡_, refl, sym, _∙_}
+-- strict order; months to the 60th birthday never pass a bound that the age gives. Assumes nothing.
+use mathlib.Core.Path.{_≡_, refl}
 use mathlib.Core.Bool.{Bool, true, false, cond, _&&_, _||_, false≢true}
 use mathlib.Core.Logic.{_⊎_, inl, inr, ⊎-elim}
 use Prim.Native.Nat.{ℕ, _+_, _-_, _≤_, _<_}
@@ -11,7 +10,7 @@ use lib.Dec.{leb, ltb, eqb}
 use borrow.Author.Tests.{ltb-true, eqb-true, leb-true, lt-ltb, le-ltb, eq-eqb}
 use Rattle.calendar.specs.declared.Date.{Date}
 use Rattle.calendar.proofs.TestLaws.{and-left, and-right, not-true-false}
-use Rattle.calendar.specs.Calendar.{beforeBy, earlier, inCalendar, yearIn, monthIn, dayIn, lengthIn, monthIndex, months, sixtiethBirthday}
+use Rattle.calendar.specs.Calendar.{beforeBy, earlier, inCalendar, yearIn, monthIn, dayIn, lengthIn, monthIndex, incomplete, months, sixtiethBirthday}
 
 -- what `beforeBy` says
 by-cases : (x y : ℕ) (s : Bool) → beforeBy x y s ≡ true → (x < y) ⊎ ((x ≡ y) × (s ≡ true))
@@ -53,23 +52,10 @@ pub earlier-irrefl : (a : Date) → earlier a a ≡ false
 unfolding earlier
 earlier-irrefl a = simp (by-self, le-ltb (a .day) (a .day) (omega arith))
 
-pub earlier-asym : (a b : Date) → earlier a b ≡ true → earlier b a ≡ true → ⊥
-earlier-asym a b p q = false≢true (sym (earlier-irrefl a) ∙ earlier-trans a b a p q)
-
--- the day's part of the count takes off at most one
-pub months-self : (a : Date) → months a a ≡ 0
-unfolding months
-months-self a = omega arith
-
--- a month count is at most the difference of the month indices
-months-at-most : (a b : Date) → months a b ≤ monthIndex b - monthIndex a
-unfolding months
-months-at-most a b = omega arith
-
--- and at least one less
+-- a month count is at least the difference of the month indices less one
 months-at-least : (a b : Date) → monthIndex b ≤ monthIndex a + months a b + 1
 unfolding months
-months-at-least a b = omega (arith, one (ltb (b .day) (a .day)))
+months-at-least a b = omega (arith, one (incomplete a b))
   where
     one : (t : Bool) → cond t 1 0 ≤ 1
     one true = omega arith
@@ -77,7 +63,7 @@ months-at-least a b = omega (arith, one (ltb (b .day) (a .day)))
 
 -- whole where the day is reached
 months-whole : (a b : Date) → a .day ≤ b .day → months a b ≡ monthIndex b - monthIndex a
-unfolding months
+unfolding months incomplete
 months-whole a b h = simp (le-ltb (b .day) (a .day) h, sub-zero)
 
 -- the ranges of a date of the calendar
@@ -104,14 +90,6 @@ calendar-range d h =
       first-day = leb-true _ _ (and-left (leb 1 (d .day)) _ t);
       last-day = leb-true _ _ (and-right (leb 1 (d .day)) _ t);
     }
-
--- between dates of the calendar there are fewer than 300 years
-pub months-bounded : (a b : Date) → inCalendar a ≡ true → inCalendar b ≡ true → months a b < 3600
-unfolding monthIndex
-months-bounded a b p q =
-    let ra = calendar-range a p in
-    let rb = calendar-range b q in
-    omega (arith, months-at-most a b)
 
 -- where the age is 660 to 719 months, there are 0 to 60 months to the 60th birthday
 pub months-to-sixtieth : (birth at : Date) → 660 ≤ months birth at → months birth at < 720 → months at (sixtiethBirthday birth) ≤ 60

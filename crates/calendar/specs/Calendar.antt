@@ -52,10 +52,14 @@ earlier a b =
 unfoldable pub monthIndex : Date → ℕ
 monthIndex d = 12 * d .year + d .month
 
--- "Months from a to b": 12 times the difference of years plus the difference of months, less one if b's
--- day is below a's; 0 where that would be below 0, which dates of the calendar give only where b is before a
+-- the last month from a to b is not complete: b's day is below a's
+unfoldable pub incomplete : Date → Date → Bool
+incomplete a b = ltb (b .day) (a .day)
+
+-- "Months from a to b": 12 times the difference of years plus the difference of months, less one if the last is not
+-- complete; 0 where that would be below 0, which dates of the calendar give only where b is before a
 unfoldable pub months : Date → Date → ℕ
-months a b = monthIndex b - monthIndex a - cond (ltb (b .day) (a .day)) 1 0
+months a b = monthIndex b - monthIndex a - cond (incomplete a b) 1 0
 
 -- the 60th birthday: birth day and month, birth year + 60, in the calendar or not
 unfoldable pub sixtiethBirthday : Date → Date

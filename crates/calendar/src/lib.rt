@@ -1,9 +1,7 @@
 // Dates: whether they are in the calendar, their order, and the months between them.
 ghost use mathlib.Core.Path.{_≡_};
-ghost use mathlib.Core.Bool.{cond};
-ghost use Prim.Native.Nat.{_-_, _<_};
-ghost use lib.Dec.{ltb};
-ghost use Rattle.calendar.specs.Calendar.{leap, thirty, monthLength, inCalendar, earlier, monthIndex, months, sixtiethBirthday};
+ghost use Prim.Native.Nat.{_+_, _*_, _≤_};
+ghost use Rattle.calendar.specs.Calendar.{date, leap, thirty, monthLength, inCalendar, earlier, incomplete, months, sixtiethBirthday};
 
 // Any three numbers of these widths, as they stand in a case line; in_calendar tells which are dates.
 pub struct Date {
@@ -12,7 +10,7 @@ pub struct Date {
     pub day: u8,
 }
 
-fn leap_year(year: u16) -> bool
+fn leap_year(year: u32) -> bool
     ensures { λ r. ⌜ r ≡ leap year ⌝ }
 {
     let fourth = year % 4 == 0;
@@ -31,7 +29,7 @@ fn thirty_days(month: u8) -> bool
     april | june | (september | november)
 }
 
-fn days_of_month(year: u16, month: u8) -> u8
+fn days_of_month(year: u32, month: u8) -> u8
     ensures { λ r. ⌜ r ≡ monthLength year month ⌝ }
 {
     if month == 2 {
@@ -48,7 +46,7 @@ pub fn in_calendar(d: Date) -> bool
     let year = (1900 <= d.year) & (d.year <= 2199);
     let month = (1 <= d.month) & (d.month <= 12);
     let day = (1 <= d.day) & (d.day <= 31);
-    let last = days_of_month(d.year, d.month);
+    let last = days_of_month(d.year as u32, d.month);
     year & (month & (day & (d.day <= last)))
 }
 
@@ -64,23 +62,33 @@ pub fn is_earlier(a: Date, b: Date) -> bool
     year | same_year & (month | same_month & day)
 }
 
-// 12 times the year plus the month, far within 32 bits.
-fn month_index(d: Date) -> u32
-    ensures { λ r. ⌜ (r ≡ monthIndex d) × (r < 1048576) ⌝ }
+// 12 times the year plus the month, by which months are counted.
+fn month_index(year: u32, month: u8) -> u32
+    requires { ⌜ year ≤ 65595 ⌝ }
+    ensures { λ r. ⌜ r ≡ 12 * year + month ⌝ }
 {
-    let year = d.year as u32;
-    let month = d.month as u32;
-    12 * year + month
+    12 * year + month as u32
 }
 
-// Whole months from one month's day to another's; 0 where the second is not a whole month later.
-fn whole_months(from: u32, from_day: u8, to: u32, to_day: u8) -> u32
-    ensures { λ r. ⌜ r ≡ to - from - cond (ltb «to_day» «from_day») 1 0 ⌝ }
+// Whether the last month from a to a later date is not complete. The later date comes as plain numbers, since the year of
+// a 60th birthday may pass those of a Date.
+fn is_incomplete(a: Date, year: u32, month: u8, day: u8) -> bool
+    ensures { λ r. ⌜ r ≡ incomplete a (date year month day) ⌝ }
 {
+    day < a.day
+}
+
+// Whole months from a to the date of these numbers, of which the year is at most 60 past the years of a Date.
+fn months_to(a: Date, year: u32, month: u8, day: u8) -> u32
+    requires { ⌜ year ≤ 65595 ⌝ }
+    ensures { λ r. ⌜ r ≡ months a (date year month day) ⌝ }
+{
+    let from = month_index(a.year as u32, a.month);
+    let to = month_index(year, month);
     if to <= from {
         return 0;
     }
-    if to_day < from_day {
+    if is_incomplete(a, year, month, day) {
         return to - from - 1;
     }
     to - from
@@ -90,13 +98,12 @@ fn whole_months(from: u32, from_day: u8, to: u32, to_day: u8) -> u32
 pub fn months_between(a: Date, b: Date) -> u32
     ensures { λ r. ⌜ r ≡ months a b ⌝ }
 {
-    whole_months(month_index(a), a.day, month_index(b), b.day)
+    months_to(a, b.year as u32, b.month, b.day)
 }
 
 // Whole months from a date to the 60th birthday of one born at birth; 0 where that is past.
 pub fn months_to_sixtieth_birthday(birth: Date, from: Date) -> u32
     ensures { λ r. ⌜ r ≡ months from (sixtiethBirthday birth) ⌝ }
 {
-    let birthday = month_index(birth) + 720;
-    whole_months(month_index(from), from.day, birthday, birth.day)
+    months_to(from, birth.year as u32 + 60, birth.month, birth.day)
 }

@@ -7,7 +7,7 @@ use mathlib.Core.Path.{_≡_, refl, sym, _∙_, ap}
 use native.Mathlib.Omega.{arith}
 use lib.ListN.{length, getD, take, drop, set, length-set}
 use lib.Seq.{take-all}
-use Rattle.split.proofs.ListLaws.{map-stored}
+use Rattle.split.proofs.ListLoop.{map-stored}
 use Rattle.register.specs.declared.answers.Located.{Located}
 use Rattle.register.specs.Layout.{Register, lineLayout}
 use Rattle.register.specs.Find.{findLine, locate}

@@ -7,12 +7,13 @@ use mathlib.Core.Path.{_≡_, refl}
 use native.Mathlib.Decide.{decLt}
 use native.Mathlib.Nat
 use native.Mathlib.Omega.{arith}
+use Rattle.calendar.specs.Sums.{sumOf}
 use Rattle.split.specs.declared.limits.Benefit.{Benefit}
 use Rattle.split.specs.declared.grant.Row.{Row}
-use Rattle.split.specs.Limits.{total, totalCap, WithinCaps, spend, pricedLimit, KeepsPriced, PositiveTops, Best}
-use Rattle.split.specs.Grant.{lumpsOf, grant}
-use Rattle.split.proofs.Prices.{priced-exact, exact-priced, total-capped}
-use Rattle.split.proofs.Rows.{rowAt, sumOf}
+use Rattle.split.specs.Limits.{total, totalCap, WithinCaps, spend, pricedLimit, Kept, KeepsPriced, PositiveTops, Best}
+use Rattle.split.specs.Grant.{lumpsOf, grant, rowAt}
+use Rattle.split.proofs.LimitsLaws.{total-capped}
+use Rattle.split.proofs.Prices.{priced-exact, exact-priced}
 use Rattle.split.proofs.Served.{Matches, none, more, paid}
 use Rattle.split.proofs.Level.{Fair, Settled}
 use Rattle.split.proofs.Turns.{grant-settled}
@@ -55,28 +56,33 @@ rival (y ∷ ys) (more price cap rest) fair capped =
 
 -- a rival that is over the priced limit by at most k levels is better by at most k
 rival-over : {bs : List Benefit} {floor : ℕ} {rs : List Row} (settled : Settled bs floor rs) (k : ℕ) (ys : List ℕ)
-    → WithinCaps bs ys → spend bs ys ≤ pricedLimit bs + k * settled .state .level → total ys ≤ total (lumpsOf rs) + k
-rival-over {rs} settled k ys capped over =
+    → Kept (pricedLimit bs + k * settled .state .level) bs ys → total ys ≤ total (lumpsOf rs) + k
+rival-over {rs} settled k ys kept =
     Nat.le-of-suc-le-suc
     (Nat.lt-of-mul-lt-mul-right (settled .state .level) {m = total ys} {n = suc (total (lumpsOf rs) + k)}
     (simp (Nat.suc-mul, Nat.add-mul)
-    (omega (arith, rival ys (settled .state .run .matches) (settled .state .fair) capped))))
+    (omega (arith, rival ys (settled .state .run .matches) (settled .state .fair) (kept .caps)))))
 
 -- settled rows are best, where the sum of the caps is at most the floor of their level
 pub settled-best : {bs : List Benefit} {floor : ℕ} {rs : List Row} → PositiveTops bs → totalCap bs ≤ floor
     → Settled bs floor rs → Best bs (lumpsOf rs)
 settled-best {bs} {rs} positive caps settled = record {
   tops = positive;
-  caps = lumps-capped (settled .state .run .matches) (settled .state .run .capped);
   priced = priced;
   exact = priced-exact bs (lumpsOf rs) positive priced;
-  best = λ ys capped keeps. omega (arith, rival-over settled 0 ys capped (omega arith));
-  nearly = λ ys capped keeps.
-      rival-over settled 1 ys capped (omega (arith, exact-priced bs ys positive keeps, total-capped bs ys capped));
+  best = λ ys keeps. omega (arith, rival-over settled 0 ys (record { caps = keeps .caps; spent = omega arith }));
+  nearly = λ ys keeps.
+      rival-over settled 1 ys (record {
+        caps = keeps .caps;
+        spent = omega (arith, exact-priced bs ys positive keeps, total-capped bs ys (keeps .caps));
+      });
 }
   where
     priced : KeepsPriced bs (lumpsOf rs)
-    priced = omega (arith, lumps-spend (settled .state .run .matches))
+    priced = record {
+      caps = lumps-capped (settled .state .run .matches) (settled .state .run .capped);
+      spent = omega (arith, lumps-spend (settled .state .run .matches));
+    }
 
 -- the grant keeps both limits, and no split does better, or by more than a penny under the exact limit
 pub grant-best : (bs : List Benefit) → PositiveTops bs → totalCap bs ≤ 3000000000 → Best bs (grant bs)

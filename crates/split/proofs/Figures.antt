@@ -1,7 +1,7 @@
 -- The office's figures hold, as one list: antt computes every row. Assumes nothing.
 use mathlib.Core.Path.{_≡_, refl}
 use mathlib.Core.Bool.{true}
-use Rattle.calendar.specs.Calendar.{months, monthIndex, sixtiethBirthday}
+use Rattle.calendar.specs.Calendar.{months, monthIndex, incomplete, sixtiethBirthday}
 use Rattle.calendar.specs.Figure.{hold}
 use Rattle.factors.specs.Commutation.{table1, straightLine, yearValues, commutationFactor}
 use Rattle.factors.specs.EarlyPayment.{tableA, earlyPaymentFactor, reducedPension}
@@ -15,5 +15,5 @@ use Rattle.split.specs.Quote.{remainingOf, secondOf, shareOf, lumpsGrant
 use Rattle.split.specs.Figures.{figures}
 
 pub figures-hold : hold figures ≡ true
-unfolding months monthIndex sixtiethBirthday table1 straightLine yearValues commutationFactor tableA earlyPaymentFactor reducedPension lumpTop lumpBottom effectiveFactor tableFigures ageOf workedPension workedTerms factorOf limitedLump quarterLump capOf benefitOf priceOf cheapest most turns grant remainingOf secondOf shareOf lumpsGranted figures
+unfolding months monthIndex incomplete sixtiethBirthday table1 straightLine yearValues commutationFactor tableA earlyPaymentFactor reducedPension lumpTop lumpBottom effectiveFactor tableFigures ageOf workedPension workedTerms factorOf limitedLump quarterLump capOf benefitOf priceOf cheapest most turns grant remainingOf secondOf shareOf lumpsGranted figures
 figures-hold = refl

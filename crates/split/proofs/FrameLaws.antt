@@ -1,23 +1,17 @@
--- Laws of fields: a digit is below 16, a number of n digits below 16 to the n, read a digit at a time or joined of two
--- numbers, a digit's value is arithmetic of its character, the digits of a line are worked out one by one, and a date is
--- read part by part. Assumes nothing.
-use mathlib.Core.Path.{_≡_, refl, sym, _∙_}
+-- Laws of fields: a digit is below 16, a number of n digits below 16 to the n, read a digit at a time or split into two
+-- numbers, and a digit's value is arithmetic of its character. Assumes nothing.
+use mathlib.Core.Path.{_≡_, refl}
 use mathlib.Core.Bool.{false, _||_}
-use Prim.Native.Nat.{ℕ, zero, suc, _+_, _*_, _/_, _%_, _^_, _<_, _≤_, min}
+use Prim.Native.Nat.{ℕ, zero, suc, _+_, _*_, _/_, _%_, _^_, _<_, _≤_}
 use native.Mathlib.Nat.{add-assoc, add-zero, add-suc, mul-assoc, pow-suc, pow-le-pow-right, lt-of-lt-of-le}
-use native.Mathlib.Decide.{decLt}
 use native.Mathlib.Numerals.{add-one}
 use native.Mathlib.Omega.{arith}
 use mathlib.Core.List.{List}
 use lib.Dec.{eqb}
-use lib.ListN.{length, getD, set, replicate, length-set, List·getD-eq-default}
-use lib.Seq.{getD-set-same, getD-set-other}
-use borrow.Author.Count.{below-more}
+use lib.ListN.{length, getD, List·getD-eq-default}
 use borrow.Author.Tests.{eqb-true}
-use Rattle.calendar.specs.Calendar.{date}
 use Rattle.factors.proofs.Table.{below-at}
-use Rattle.split.specs.Frame.{noDigit, badCharacter, digitAt, numberAt, dateAt, hexValue}
-use Rattle.split.specs.Parts.{Digits}
+use Rattle.split.specs.Frame.{noDigit, badCharacter, digitAt, numberAt, hexValue}
 use Rattle.calendar.proofs.TestLaws.{any-none}
 
 pub digit-below : (s : List ℕ) (at : ℕ) → digitAt s at < 16
@@ -73,78 +67,9 @@ number-past s at zero h = refl
 number-past s at (suc n) h =
     simp (number-past s at n h, List·getD-eq-default s 0 {n = at + n} (omega arith))
 
--- the first i digits of a line are worked out, and zeros stand behind them
-pub record Decoded (s d : List ℕ) (i : ℕ) : Type 0 where
-  pub size : length d ≡ 202
-  pub passed : (j : ℕ) → j < i → getD d j 0 ≡ digitAt s j
-  pub rest : (j : ℕ) → i ≤ j → getD d j 0 ≡ 0
-
-zeros : (n j : ℕ) → _≡_ {A = ℕ} (getD (replicate n 0) j 0) 0
-zeros zero j = refl
-zeros (suc n) zero = refl
-zeros (suc n) (suc j) = zeros n j
-
-pub decoded-none : {s : List ℕ} → Decoded s (replicate 202 0) 0
-decoded-none = record { size = refl; passed = λ j h. absurd (omega arith); rest = λ j h. zeros 202 j }
-
--- one more
-pub decoded-more : {s d : List ℕ} {i v : ℕ} → Decoded s d i → i < 202 → v ≡ digitAt s i → Decoded s (set d i v) (i + 1)
-decoded-more {s} {d} {i} {v} done h e =
-    let other : (j : ℕ) → (j ≡ i → ⊥) → getD (set d i v) j 0 ≡ getD d j 0 = λ j n. getD-set-other d i j v 0 n in
-    record {
-      size = length-set d i v ∙ done .size;
-      passed =
-          below-more _ i (λ j l. other j (λ q. omega arith) ∙ done .passed j l)
-          (getD-set-same d i v 0 (rw (done .size) h) ∙ e);
-      rest = λ j l. other j (λ q. omega arith) ∙ done .rest j (omega arith);
-    }
-
--- all, where as many are worked out as the line has, or as the longest
-pub decoded-all : {s d : List ℕ} {i : ℕ} → Decoded s d i → min (length s) 202 ≤ i → Digits s d
-unfolding digitAt hexValue
-decoded-all {s} {d} {i} done past =
-    record {
-      values = record {
-        size = done .size;
-        low = λ j. elim (decLt j i) [
-          | yes h ↦ rw (done .passed j h) (digit-below s j)
-          | no h ↦ rw (done .rest j (omega arith)) (omega arith)
-        ];
-      };
-      each = λ j l. elim (decLt j i) [
-        | yes h ↦ done .passed j h
-        | no h ↦ done .rest j (omega arith) ∙ simp (digitAt, List·getD-eq-default s 0 {n = j} (omega arith))
-      ];
-    }
-
 -- a number is that of its first digits, moved up, and that of the others
 pub number-split : (s : List ℕ) (at m n : ℕ) → numberAt s at (m + n) ≡ numberAt s at m * 16 ^ n + numberAt s (at + m) n
 unfolding numberAt
 number-split s at m zero = rw (add-zero m) (omega arith)
 number-split s at m (suc n) =
     rw (add-suc, numberAt, pow-suc, ← add-assoc at m n, ← mul-assoc) (omega (arith, number-split s at m n))
-
--- what digit values say of every line whose digits they are
-abbrev pub Of : {A : Type 0} → List ℕ → A → (List ℕ → A) → Type 0
-Of d value f = (s : List ℕ) → Digits s d → value ≡ f s
-
--- two digits make a byte
-pub pair-read : (d : List ℕ) (at v : ℕ) → at ≤ 200 → v ≡ getD d at 0 * 16 + getD d (at + 1) 0
-    → Of d v (λ s. numberAt s at 2)
-unfolding numberAt
-pair-read d at v h e s digits =
-    e ∙ simp add-zero (omega (arith, digits .each at (omega arith), digits .each (at + 1) (omega arith)))
-
--- and two numbers of as many digits one of twice as many
-pub number-joined : (d : List ℕ) (at at₁ n high low : ℕ) → Of d high (λ s. numberAt s at n) → at₁ ≡ at + n
-    → Of d low (λ s. numberAt s at₁ n) → Of d (high * 16 ^ n + low) (λ s. numberAt s at (n + n))
-number-joined d at at₁ n high low a e b s digits =
-    rw (a s digits, b s digits, e) (sym (number-split s at n n))
-
--- a date is read part by part
-pub date-read : (d : List ℕ) (at at₁ at₂ at₃ year month day : ℕ) → Of d year (λ s. numberAt s at 4) × (at₁ ≡ at + 4)
-    → Of d month (λ s. numberAt s at₁ 2) × (at₂ ≡ at₁ + 2) → Of d day (λ s. numberAt s at₂ 2) × (at₃ ≡ at₂ + 2)
-    → Of d (date year month day) (λ s. dateAt s at) × (at₃ ≡ at + 8)
-unfolding dateAt
-date-read d at at₁ at₂ at₃ year month day y m e =
-    (λ s digits. cc (add-assoc at 4 2, y .0 s digits, m .0 s digits, e .0 s digits), omega arith)

@@ -11,9 +11,9 @@ use lib.ListN.{length}
 use Rattle.split.specs.declared.limits.Benefit.{Benefit}
 use Rattle.split.specs.declared.grant.Row.{Row}
 use Rattle.split.specs.Limits.{pricedLimit}
-use Rattle.split.specs.Grant.{rowOf, served}
+use Rattle.split.specs.Grant.{rowOf, served, rowAt, serve}
 use Rattle.split.proofs.Prices.{price-floor}
-use Rattle.split.proofs.Rows.{rowAt, serve, every-set, every-start, Lowest}
+use Rattle.split.proofs.Rows.{every-set, every-start, Lowest}
 use Rattle.split.proofs.Served.{Run, run-start, run-serve}
 
 -- A row at the level q: cheaper than q it is full, dearer it is empty. What waits is no cheaper, and while a price at the

@@ -1,17 +1,25 @@
-pub mod AcceptedLaws
+-- `XLaws` has laws of the definitions of specs/X; `XLoop` has what one turn of a loop of src/ does, in the code's numbers;
+-- every other file is named for the argument it makes. The exception is HexLaws: of specs/Frame, numbers written and read
+-- back.
+pub mod Accepted
+pub mod BenefitsLaws
 pub mod Best
 pub mod CaseLaws
+pub mod ConditionsLaws
+pub mod DigitsLaws
 pub mod Figures
 pub mod FrameLaws
-pub mod GrantLaws
+pub mod GrantLoop
 pub mod HexLaws
 pub mod Level
-pub mod LimitLaws
-pub mod ListLaws
+pub mod LimitsLaws
+pub mod ListLoop
 pub mod Prices
 pub mod QuoteLaws
-pub mod RefusalLaws
+pub mod QuotingLoop
+pub mod RangesLaws
+pub mod ReadingLaws
+pub mod RefusalLoop
 pub mod Rows
 pub mod Served
-pub mod ShareLaws
 pub mod Turns

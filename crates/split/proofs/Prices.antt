@@ -7,7 +7,7 @@ use native.Mathlib.Nat
 use native.Mathlib.Omega.{arith}
 use Rattle.factors.specs.declared.effective.Factor.{Factor}
 use Rattle.split.specs.declared.limits.Benefit.{Benefit}
-use Rattle.split.specs.Limits.{total, priceOf, totalCap, WithinCaps, spend, pricedLimit, KeepsPriced, tops, exactCost, KeepsExact, PositiveTops}
+use Rattle.split.specs.Limits.{roundedUp, total, priceOf, spend, pricedLimit, Kept, KeepsPriced, tops, exactCost, KeepsExact, PositiveTops}
 
 pub ruleset ring = (Nat.add-mul, Nat.mul-add, Nat.mul-assoc, Nat.mul-comm, Nat.mul-left-comm)
 
@@ -16,16 +16,22 @@ pub price-floor : (e : Factor) → 3000000000 ≤ priceOf e
 unfolding priceOf
 price-floor e = omega arith
 
+-- a quotient rounded up covers its dividend, and is at most a divisor over it
+rounded-covers : (x y : ℕ) → 1 ≤ y → x ≤ roundedUp x y * y
+rounded-covers x y positive = omega (arith, Nat.lt-div-mul-add {a = x + (y - 1)} positive)
+
+rounded-near : (x y : ℕ) → roundedUp x y * y ≤ x + y
+rounded-near x y = Nat.le-trans (Nat.div-mul-le-self _ y) (omega arith)
+
 -- a price times its top is at least 3 tops and 20 bottoms, in billionths
 price-covers : (e : Factor) → 1 ≤ e .top → 3000000000 * e .top + 20000000000 * e .bottom ≤ priceOf e * e .top
 unfolding priceOf
-price-covers e positive =
-    rw Nat.add-mul (omega (arith, Nat.lt-div-mul-add {a = 20000000000 * e .bottom + (e .top - 1)} {b = e .top} positive))
+price-covers e positive = rw Nat.add-mul (omega (arith, rounded-covers (20000000000 * e .bottom) (e .top) positive))
 
 -- and at most a top more
 price-near : (e : Factor) → priceOf e * e .top ≤ 3000000000 * e .top + 20000000000 * e .bottom + e .top
 unfolding priceOf
-price-near e = rw Nat.add-mul (omega (arith, Nat.div-mul-le-self (20000000000 * e .bottom + (e .top - 1)) (e .top)))
+price-near e = rw Nat.add-mul (omega (arith, rounded-near (20000000000 * e .bottom) (e .top)))
 
 -- the product of positive tops is positive
 tops-positive : (bs : List Benefit) → PositiveTops bs → 1 ≤ tops bs
@@ -62,20 +68,19 @@ spend-near (b ∷ bs) (x ∷ xs) =
 
 -- a split that keeps the priced limit keeps the exact one
 pub priced-exact : (bs : List Benefit) (xs : List ℕ) → PositiveTops bs → KeepsPriced bs xs → KeepsExact bs xs
-priced-exact bs xs h k =
-    simp ring (omega (arith, simp ring at (spend-covers bs xs h), simp ring at (Nat.mul-le-mul-left (tops bs) k)))
+priced-exact bs xs h k = record {
+  caps = k .caps;
+  cost =
+      simp ring (omega (arith, simp ring at (spend-covers bs xs h), simp ring at (Nat.mul-le-mul-left (tops bs) (k .spent))));
+}
 
 -- a split that keeps the exact limit is over the priced one by at most its total
 pub exact-priced : (bs : List Benefit) (xs : List ℕ) → PositiveTops bs → KeepsExact bs xs
-    → spend bs xs ≤ pricedLimit bs + total xs
-exact-priced bs xs h k =
-    Nat.le-of-mul-le-mul-right {k = tops bs}
-    (simp ring (omega (arith, simp ring at (spend-near bs xs), simp ring at k)))
-    (tops-positive bs h)
-
--- a split within the caps has at most their sum for its total
-pub total-capped : (bs : List Benefit) (xs : List ℕ) → WithinCaps bs xs → total xs ≤ totalCap bs
-total-capped [] [] h = omega arith
-total-capped [] (x ∷ xs) h = absurd h
-total-capped (b ∷ bs) [] h = absurd h
-total-capped (b ∷ bs) (x ∷ xs) h = omega (arith, total-capped bs xs (h .1))
+    → Kept (pricedLimit bs + total xs) bs xs
+exact-priced bs xs h k = record {
+  caps = k .caps;
+  spent =
+      Nat.le-of-mul-le-mul-right {k = tops bs}
+      (simp ring (omega (arith, simp ring at (spend-near bs xs), simp ring at (k .cost))))
+      (tops-positive bs h);
+}

@@ -2,59 +2,35 @@
 -- the best. A case that is not refused is accepted and has at most four pensions, so that every share of its grant is in
 -- range and the four places are its lumps and zeros. Assumes nothing.
 use Prim.Native.Nat.{ℕ, zero, suc, _+_, _-_, _*_, _/_, _≤_, _<_}
-use mathlib.Core.Bool.{Bool, true, false, cond, not, _||_, false≢true}
+use mathlib.Core.Bool.{Bool, true, false, cond}
 use mathlib.Core.List.{List, [], _∷_, _++_}
 use mathlib.Core.Path.{_≡_, refl, sym, _∙_, ap}
-use native.Mathlib.Decide.{decLe}
 use native.Mathlib.Nat.{mul-le-mul-left, div-le-of-le-mul}
 use native.Mathlib.Omega.{arith}
 use lib.Dec.{eqb}
 use lib.ListN.{length, take, replicate, length-append, length-replicate}
 use lib.Seq.{take-at, drop-at}
-use borrow.Author.Tests.{eqb-true, eqb-false, ne-eqb, not-false}
+use borrow.Author.Tests.{eqb-true}
 use Rattle.split.specs.declared.case.Head.{Head}
 use Rattle.split.specs.declared.case.Pension.{Pension}
+use Rattle.split.specs.declared.case.Case.{Case}
 use Rattle.split.specs.declared.answers.Share.{Share}
 use Rattle.split.specs.declared.answers.Quote.{Quote}
-use Rattle.split.specs.Case.{headOf, pensionAt, pensionsAt, pensionsOf}
+use Rattle.split.specs.Case.{headAt, headOf, pensionsOf}
 use Rattle.split.specs.Frame.{badCharacter}
 use Rattle.split.specs.Refusal.{badLength, conditions, refusalOf}
 use Rattle.calendar.specs.Tests.{lowest}
+use Rattle.split.specs.Reading.{caseOf}
 use Rattle.split.specs.Benefits.{workedTerms, benefitOf, benefitsOf}
 use Rattle.split.specs.Limits.{total, WithinCaps, Best}
 use Rattle.split.specs.Quote.{remainingOf, secondOf, shareOf, noShare, sharesOf, lumpsGranted, grantedQuote, refusedQuote, quoteOf, lumpsIn, BestLumps, SharesFit, QuoteFits}
-use Rattle.calendar.proofs.TestLaws.{or-left, or-right, lowest-none}
+use Rattle.calendar.proofs.TestLaws.{lowest-none}
 use Rattle.split.proofs.FrameLaws.{number-below}
-use Rattle.split.proofs.Prices.{total-capped}
+use Rattle.split.proofs.CaseLaws.{pensions-counted}
+use Rattle.split.proofs.ReadingLaws.{by-zero, count-listed, Read, case-unread}
 use Rattle.split.proofs.Best.{grant-best}
-use Rattle.split.proofs.AcceptedLaws.{AcceptedPension, Accepted, accepted, deferred-terms, accepted-rest, accepted-tops, accepted-caps, accepted-pensions}
-use Rattle.split.proofs.ShareLaws.{shares-counted}
-
--- a line of a listed length that agrees with its count has at most four pensions
-pub count-listed : (characters n : ℕ) → badLength characters n ≡ false → n ≤ 4
-unfolding badLength
-count-listed characters n e =
-    let counted = eqb-true characters (26 + 44 * n) (not-false _ (or-right (not listed) _ e)) in
-    elim (decLe characters 202) [
-      | yes h ↦ omega arith
-      | no h ↦ absurd (false≢true
-          (simp (
-            ne-eqb characters 70 (omega arith),
-            ne-eqb characters 114 (omega arith),
-            ne-eqb characters 158 (omega arith),
-            ne-eqb characters 202 (omega arith),
-          ) at (not-false listed (or-left (not listed) _ e))))
-    ]
-  where
-    listed : Bool
-    listed = eqb characters 70 || eqb characters 114 || (eqb characters 158 || eqb characters 202)
-
--- as many pensions as are counted
-pensions-counted : (s : List ℕ) (n : ℕ) → length (pensionsAt s n) ≡ n
-unfolding pensionsAt
-pensions-counted s zero = refl
-pensions-counted s (suc n) =
-    omega (arith, pensions-counted s n, length-append (pensionsAt s n) (pensionAt s (26 + 44 * n) ∷ []))
+use Rattle.split.proofs.LimitsLaws.{total-capped}
+use Rattle.split.proofs.Accepted.{AcceptedPension, Accepted, case-accepted, deferred-terms, accepted-rest, accepted-tops, accepted-caps, accepted-pensions}
 
 -- a second instalment is at most its lump
 second-at-most : (h : Head) (p : Pension) (lump : ℕ) → AcceptedPension h p → secondOf p lump ≤ lump
@@ -66,6 +42,21 @@ second-at-most h p lump a = go (eqb (p .kind) 2) refl
         div-le-of-le-mul 10000
         (omega (arith, mul-le-mul-left lump (deferred-terms h p a (eqb-true (p .kind) 2 e) .increase-high)))
     go false e = omega arith
+
+-- the shares of pensions with a lump each: as many, and one more at the end
+pub shares-counted : (h : Head) (ps : List Pension) (xs : List ℕ) → length xs ≡ length ps
+    → length (sharesOf h ps xs) ≡ length ps
+shares-counted h [] xs e = refl
+shares-counted h (p ∷ ps) [] e = absurd (omega arith)
+shares-counted h (p ∷ ps) (x ∷ xs) e = ap suc (shares-counted h ps xs (omega arith))
+
+pub shares-more : (h : Head) (ps : List Pension) (xs : List ℕ) (p : Pension) (x : ℕ) → length xs ≡ length ps
+    → sharesOf h (ps ++ (p ∷ [])) (xs ++ (x ∷ [])) ≡ sharesOf h ps xs ++ (shareOf h p x ∷ [])
+shares-more h [] [] p x e = refl
+shares-more h [] (y ∷ xs) p x e = absurd (omega arith)
+shares-more h (q ∷ ps) [] p x e = absurd (omega arith)
+shares-more h (q ∷ ps) (y ∷ xs) p x e =
+    ap (λ (l : List Share). shareOf h q y ∷ l) (shares-more h ps xs p x (omega arith))
 
 -- a lump for each pension, of which every figure fits
 data Shared (h : Head) : List Pension → List ℕ → Type 0 where
@@ -85,9 +76,9 @@ shared h (p ∷ ps) (x ∷ xs) a capped =
     (omega (arith, second-at-most h p x (a .each 0 (omega arith)))) (shared h ps xs (accepted-rest a) (capped .1))
 
 -- there are as many lumps as pensions
-lumps-counted : {h : Head} {ps : List Pension} {xs : List ℕ} → Shared h ps xs → length xs ≡ length ps
-lumps-counted none = refl
-lumps-counted (more x r s rest) = ap suc (lumps-counted rest)
+shared-counted : {h : Head} {ps : List Pension} {xs : List ℕ} → Shared h ps xs → length xs ≡ length ps
+shared-counted none = refl
+shared-counted (more x r s rest) = ap suc (shared-counted rest)
 
 -- the lumps of their shares are those given
 shares-lumps : {h : Head} {ps : List Pension} {xs : List ℕ} (after : List Share) → Shared h ps xs
@@ -97,11 +88,11 @@ shares-lumps after none = refl
 shares-lumps after (more {x = x} fits r s rest) = ap (λ (l : List ℕ). x ∷ l) (shares-lumps after rest)
 
 -- their figures fit
-shares-fit : {h : Head} {ps : List Pension} {xs : List ℕ} (after : List Share) → SharesFit after → Shared h ps xs
+shared-fit : {h : Head} {ps : List Pension} {xs : List ℕ} (after : List Share) → SharesFit after → Shared h ps xs
     → SharesFit (sharesOf h ps xs ++ after)
 unfolding shareOf
-shares-fit after fit none = fit
-shares-fit after fit (more x r s rest) = (x, r, s, shares-fit after fit rest)
+shared-fit after fit none = fit
+shared-fit after fit (more x r s rest) = (x, r, s, shared-fit after fit rest)
 
 -- the places of no pension
 none-fit : (n : ℕ) → SharesFit (replicate n noShare)
@@ -113,42 +104,42 @@ none-lumps zero = refl
 none-lumps (suc n) = ap (λ (l : List ℕ). 0 ∷ l) (none-lumps n)
 
 -- what a line has that is not refused
-record Granted (s : List ℕ) : Type 0 where
+record GrantedCase (s : List ℕ) : Type 0 where
   few : headOf s .count ≤ 4
   best : Best (benefitsOf (headOf s) (pensionsOf s)) (lumpsGranted (headOf s) (pensionsOf s))
   small : total (lumpsGranted (headOf s) (pensionsOf s)) ≤ 1000000000
   each : Shared (headOf s) (pensionsOf s) (lumpsGranted (headOf s) (pensionsOf s))
 
-granted : (s : List ℕ) → refusalOf s ≡ 0 → Granted s
+case-granted : (s : List ℕ) → refusalOf s ≡ 0 → GrantedCase s
 unfolding refusalOf lumpsGranted
-granted s e =
+case-granted s e =
     let h = headOf s in
     let ps = pensionsOf s in
     let later = lowest-none 0 (badCharacter s) (badLength (length s) (h .count) ∷ conditions h ps) e .1 in
     let last = lowest-none 1 (badLength (length s) (h .count)) (conditions h ps) later in
-    let a = accepted h ps (last .1) in
+    let a = case-accepted h ps (last .1) in
     let caps = accepted-caps h ps a in
     let best = grant-best (benefitsOf h ps) (accepted-tops h ps a) (omega arith) in
     record {
       few = count-listed (length s) (h .count) (last .0);
       best = best;
-      small = omega (arith, total-capped (benefitsOf h ps) (lumpsGranted (headOf s) (pensionsOf s)) (best .caps));
-      each = shared h ps (lumpsGranted (headOf s) (pensionsOf s)) a (best .caps);
+      small = omega (arith, total-capped (benefitsOf h ps) (lumpsGranted (headOf s) (pensionsOf s)) (best .priced .caps));
+      each = shared h ps (lumpsGranted (headOf s) (pensionsOf s)) a (best .priced .caps);
     }
 
 -- it has as many shares as pensions are counted
-places-counted : (s : List ℕ) → Granted s
+places-counted : (s : List ℕ) → GrantedCase s
     → length (sharesOf (headOf s) (pensionsOf s) (lumpsGranted (headOf s) (pensionsOf s))) ≡ headOf s .count
 places-counted s g =
-    shares-counted (headOf s) (pensionsOf s) (lumpsGranted (headOf s) (pensionsOf s)) (lumps-counted (g .each))
+    shares-counted (headOf s) (pensionsOf s) (lumpsGranted (headOf s) (pensionsOf s)) (shared-counted (g .each))
     ∙ pensions-counted s (headOf s .count)
 
 -- every figure of a grant fits
 member-fits : (s : List ℕ) → headOf s .member < 4294967296
-unfolding headOf
+unfolding headOf headAt
 member-fits s = number-below s 0 8
 
-granted-fits : (s : List ℕ) → Granted s → QuoteFits (grantedQuote (headOf s) (pensionsOf s))
+granted-fits : (s : List ℕ) → GrantedCase s → QuoteFits (grantedQuote (headOf s) (pensionsOf s))
 unfolding grantedQuote
 granted-fits s g =
     let shares = sharesOf (headOf s) (pensionsOf s) (lumpsGranted (headOf s) (pensionsOf s)) in
@@ -156,7 +147,7 @@ granted-fits s g =
       member = member-fits s;
       total = omega arith;
       four = rw (length-append, length-replicate, places-counted s g) (omega arith);
-      shares = shares-fit (replicate (4 - length shares) noShare) (none-fit (4 - length shares)) (g .each);
+      shares = shared-fit (replicate (4 - length shares) noShare) (none-fit (4 - length shares)) (g .each);
     }
 
 -- and of a refusal
@@ -177,23 +168,20 @@ best-lumps s xs four e counted best =
     }
 
 -- so are those of a grant
-granted-best : (s : List ℕ) → Granted s → BestLumps s (lumpsIn (grantedQuote (headOf s) (pensionsOf s) .shares)) (grantedQuote (headOf s) (pensionsOf s) .total .0)
+granted-best : (s : List ℕ) → GrantedCase s → BestLumps s (lumpsIn (grantedQuote (headOf s) (pensionsOf s) .shares)) (grantedQuote (headOf s) (pensionsOf s) .total .0)
 unfolding grantedQuote
 granted-best s g =
     best-lumps s (lumpsGranted (headOf s) (pensionsOf s)) _
     (shares-lumps _ (g .each) ∙ rw (none-lumps, places-counted s g))
-    (lumps-counted (g .each) ∙ pensions-counted s (headOf s .count))
+    (shared-counted (g .each) ∙ pensions-counted s (headOf s .count))
     (g .best)
 
 -- the quote of a line is the grant's or the refusal's
 by-refusal : (P : Quote → Type 0) (s : List ℕ) → (refusalOf s ≡ 0 → P (grantedQuote (headOf s) (pensionsOf s)))
     → ((refusalOf s ≡ 0 → ⊥) → P (refusedQuote (refusalOf s))) → P (quoteOf s)
 unfolding quoteOf
-by-refusal P s granting refusing = go (eqb (refusalOf s) 0) refl
-  where
-    go : (b : Bool) → eqb (refusalOf s) 0 ≡ b → P (cond b (grantedQuote (headOf s) (pensionsOf s)) (refusedQuote (refusalOf s)))
-    go true e = granting (eqb-true (refusalOf s) 0 e)
-    go false e = refusing (eqb-false (refusalOf s) 0 e)
+by-refusal P s granting refusing =
+    by-zero P (refusalOf s) (grantedQuote (headOf s) (pensionsOf s)) (refusedQuote (refusalOf s)) granting refusing
 
 refused-as : (s : List ℕ) (r : ℕ) → (r ≡ 0 → ⊥) → refusalOf s ≡ r → refusedQuote r ≡ quoteOf s
 refused-as s r some e =
@@ -209,48 +197,34 @@ quote-refusal s = by-refusal (λ q. q .refusal ≡ refusalOf s) s (λ e. sym e) 
 
 -- the figures of every quote fit
 pub quote-fits : (s : List ℕ) → QuoteFits (quoteOf s)
-quote-fits s = by-refusal QuoteFits s (λ e. granted-fits s (granted s e)) (λ ne. refused-fits (refusalOf s))
+quote-fits s = by-refusal QuoteFits s (λ e. granted-fits s (case-granted s e)) (λ ne. refused-fits (refusalOf s))
 
 -- the lumps of a quote without refusal are the best
 pub quote-best : (s : List ℕ) → refusalOf s ≡ 0 → BestLumps s (lumpsIn (quoteOf s .shares)) (quoteOf s .total .0)
 quote-best s e =
-    by-refusal (λ q. BestLumps s (lumpsIn (q .shares)) (q .total .0)) s (λ z. granted-best s (granted s z))
+    by-refusal (λ q. BestLumps s (lumpsIn (q .shares)) (q .total .0)) s (λ z. granted-best s (case-granted s z))
     (λ ne. absurd (ne e))
 
--- a line with a bad character is refused
-pub quote-bad-character : (s : List ℕ) (q : Quote) → badCharacter s ≡ true → q ≡ refusedQuote 1 → q ≡ quoteOf s
-unfolding refusalOf
-quote-bad-character s q bad made = made ∙ refused-as s 1 (λ e. omega arith) (simp (refusalOf, bad))
+-- a line of which no case can be read is refused
+pub quote-unread : (s : List ℕ) (c : Case) (q : Quote) → c ≡ caseOf s → (c .refusal ≡ 0 → ⊥) → q ≡ refusedQuote (c .refusal)
+    → q ≡ quoteOf s
+quote-unread s c q made some refused = refused ∙ refused-as s (c .refusal) some (case-unread s c made some)
 
--- refused by its length
-pub quote-bad-length : (s : List ℕ) (h : Head) → badCharacter s ≡ false → h ≡ headOf s → (q : Quote)
-    → badLength (length s) (h .count) ≡ true → q ≡ refusedQuote 2 → q ≡ quoteOf s
-unfolding refusalOf
-quote-bad-length s h digits read q bad made =
-    made ∙ refused-as s 2 (λ e. omega arith) (simp (refusalOf, digits, rw read at bad))
-
--- what the code has read of a line of digits and of a right length, and the refusal of its case
-pub record Judged (s : List ℕ) (h : Head) (ps : List Pension) (refused : ℕ) : Type 0 where
-  pub digits : badCharacter s ≡ false
-  pub head : h ≡ headOf s
-  pub measured : badLength (length s) (h .count) ≡ false
-  pub taken : take (h .count) ps ≡ pensionsAt s (h .count)
-  pub lowest-of : refused ≡ lowest 3 (conditions h (take (h .count) ps))
-
-module _ {s : List ℕ} {h : Head} {ps : List Pension} {refused : ℕ} (judged : Judged s h ps refused) where
+-- what the code has read of a line, and the refusal of its case
+module _ {s : List ℕ} {c : Case} {refused : ℕ} (read : Read s c)
+    (judged : refused ≡ lowest 3 (conditions (c .head) (take (c .head .count) (c .pensions)))) where
   case-of : refusalOf s ≡ refused
-  unfolding refusalOf
   case-of =
-      simp (refusalOf, judged .digits, rw (judged .head) at (judged .measured))
-      (sym (judged .lowest-of ∙ ap (λ (l : List Pension). lowest 3 (conditions h l)) (judged .taken)
-      ∙ ap (λ (k : Head). lowest 3 (conditions k (pensionsAt s (k .count)))) (judged .head)))
+      read .judged
+      ∙ sym (judged ∙ ap (λ (l : List Pension). lowest 3 (conditions (c .head) l)) (read .taken)
+      ∙ ap (λ (h : Head). lowest 3 (conditions h (pensionsOf s))) (read .head))
 
   -- refused by its case
   pub quote-refused : (q : Quote) → (refused ≡ 0 → ⊥) → q ≡ refusedQuote refused → q ≡ quoteOf s
   quote-refused q some made = made ∙ refused-as s refused some case-of
 
   -- granted
-  pub quote-granted : (q : Quote) → refused ≡ 0 → q ≡ grantedQuote h (take (h .count) ps) → q ≡ quoteOf s
+  pub quote-granted : (q : Quote) → refused ≡ 0 → q ≡ grantedQuote (c .head) (take (c .head .count) (c .pensions)) → q ≡ quoteOf s
   quote-granted q passed made =
-      made ∙ ap (λ (l : List Pension). grantedQuote h l) (judged .taken)
-      ∙ ap (λ (k : Head). grantedQuote k (pensionsAt s (k .count))) (judged .head) ∙ granted-as s (case-of ∙ passed)
+      made ∙ ap (λ (l : List Pension). grantedQuote (c .head) l) (read .taken)
+      ∙ ap (λ (h : Head). grantedQuote h (pensionsOf s)) (read .head) ∙ granted-as s (case-of ∙ passed)

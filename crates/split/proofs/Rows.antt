@@ -5,25 +5,13 @@ use mathlib.Core.Bool.{Bool, true, false, cond, _&&_, _||_, false≢true}
 use mathlib.Core.List.{List, [], _∷_, map}
 use mathlib.Core.Path.{_≡_, refl, sym, _∙_}
 use native.Mathlib.Omega.{arith}
-use lib.Dec.{leb, eqb}
-use lib.ListN.{length, getD, set}
+use lib.Dec.{eqb}
+use lib.ListN.{length, set}
 use borrow.Author.Tests.{leb-true, leb-false, eqb-true, eqb-false}
+use Rattle.calendar.specs.Sums.{sumOf}
 use Rattle.split.specs.declared.limits.Benefit.{Benefit}
 use Rattle.split.specs.declared.grant.Row.{Row}
-use Rattle.split.specs.Grant.{noRow, rowOf, served, cheapest}
-
--- the row at a place
-abbrev pub rowAt : List Row → ℕ → Row
-rowAt rs i = getD rs i noRow
-
--- the rows when the one at a place has been given g
-abbrev pub serve : List Row → ℕ → ℕ → List Row
-serve rs i g = set rs i (served (rowAt rs i) g)
-
--- the sum of a number of each row
-abbrev pub sumOf : (Row → ℕ) → List Row → ℕ
-sumOf f [] = 0
-sumOf f (r ∷ rs) = f r + sumOf f rs
+use Rattle.split.specs.Grant.{noRow, rowOf, rowAt, goesFirst, cheapest}
 
 -- a row replaced: its number leaves the sum, and the new row's comes in
 pub sum-set : (f : Row → ℕ) (rs : List Row) (i : ℕ) (r : Row) → i < length rs
@@ -48,9 +36,19 @@ every-start P [] past new j = past
 every-start P (b ∷ bs) past new zero = new b
 every-start P (b ∷ bs) past new (suc j) = every-start P bs past new j
 
+-- `cheapest` is a place of the rows, or their number
+pub cheapest-inside : (rs : List Row) → cheapest rs ≤ length rs
+unfolding cheapest
+cheapest-inside [] = omega arith
+cheapest-inside (r ∷ rs) =
+    go (r .waiting && (eqb (cheapest rs) (length rs) || goesFirst r (rowAt rs (cheapest rs)))) (cheapest-inside rs)
+  where
+    go : (here : Bool) → cheapest rs ≤ length rs → cond here 0 (suc (cheapest rs)) ≤ suc (length rs)
+    go true h = omega arith
+    go false h = omega arith
+
 -- the place of a waiting row of the lowest price, or the number of rows where none waits
 pub record Lowest (rs : List Row) (i : ℕ) : Type 0 where
-  pub inside : i ≤ length rs
   pub waits : i < length rs → (rowAt rs i) .waiting ≡ true
   pub least : (j : ℕ) → (rowAt rs j) .waiting ≡ true
       → (i < length rs) × ((rowAt rs i) .price ≤ (rowAt rs j) .price)
@@ -59,7 +57,6 @@ pub record Lowest (rs : List Row) (i : ℕ) : Type 0 where
 first-lowest : (r : Row) (rs : List Row) → r .waiting ≡ true
     → ((j : ℕ) → (rowAt rs j) .waiting ≡ true → r .price ≤ (rowAt rs j) .price) → Lowest (r ∷ rs) 0
 first-lowest r rs w least = record {
-  inside = omega arith;
   waits = λ h. w;
   least = elim [ zero ↦ λ v. omega arith | suc j ↦ λ v. omega (arith, least j v) ];
 }
@@ -68,7 +65,6 @@ first-lowest r rs w least = record {
 later-lowest : (r : Row) (rs : List Row) (i : ℕ) → Lowest rs i
     → (r .waiting ≡ true → (i < length rs) × ((rowAt rs i) .price ≤ r .price)) → Lowest (r ∷ rs) (suc i)
 later-lowest r rs i rest dearer = record {
-  inside = omega arith;
   waits = λ h. rest .waits (omega arith);
   least = elim [ zero ↦ λ v. omega (arith, dearer v) | suc j ↦ λ v. omega (arith, rest .least j v) ];
 }
@@ -76,13 +72,13 @@ later-lowest r rs i rest dearer = record {
 -- `cheapest` finds it
 pub cheapest-lowest : (rs : List Row) → Lowest rs (cheapest rs)
 unfolding cheapest
-cheapest-lowest [] = record { inside = omega arith; waits = λ h. absurd (omega arith); least = λ j v. absurd (false≢true v) }
+cheapest-lowest [] = record { waits = λ h. absurd (omega arith); least = λ j v. absurd (false≢true v) }
 cheapest-lowest (r ∷ rs) =
-    choose (r .waiting) (eqb (cheapest rs) (length rs)) (leb (r .price) ((rowAt rs (cheapest rs)) .price)) refl refl refl
+    choose (r .waiting) (eqb (cheapest rs) (length rs)) (goesFirst r (rowAt rs (cheapest rs))) refl refl refl
     (cheapest-lowest rs)
   where
     choose : (w e l : Bool) → r .waiting ≡ w → eqb (cheapest rs) (length rs) ≡ e
-        → leb (r .price) ((rowAt rs (cheapest rs)) .price) ≡ l → Lowest rs (cheapest rs)
+        → goesFirst r (rowAt rs (cheapest rs)) ≡ l → Lowest rs (cheapest rs)
         → Lowest (r ∷ rs) (cond (w && (e || l)) 0 (suc (cheapest rs)))
     choose true true l w e p rest =
         first-lowest r rs w (λ j v. absurd (omega (arith, rest .least j v, eqb-true (cheapest rs) (length rs) e)))
@@ -90,5 +86,10 @@ cheapest-lowest (r ∷ rs) =
         first-lowest r rs w (λ j v. omega (arith, rest .least j v, leb-true (r .price) ((rowAt rs (cheapest rs)) .price) p))
     choose true false false w e p rest =
         later-lowest r rs (cheapest rs) rest
-        (λ v. omega (arith, eqb-false (cheapest rs) (length rs) e, leb-false (r .price) ((rowAt rs (cheapest rs)) .price) p))
+        (λ v. omega (
+          arith,
+          cheapest-inside rs,
+          eqb-false (cheapest rs) (length rs) e,
+          leb-false (r .price) ((rowAt rs (cheapest rs)) .price) p,
+        ))
     choose false e l w eq p rest = later-lowest r rs (cheapest rs) rest (λ v. absurd (false≢true (sym w ∙ v)))

@@ -8,11 +8,12 @@ use mathlib.Core.Path.{_≡_, refl}
 use native.Mathlib.Nat
 use native.Mathlib.Omega.{arith}
 use lib.ListN.{length}
+use Rattle.calendar.specs.Sums.{sumOf}
 use Rattle.split.specs.declared.limits.Benefit.{Benefit}
 use Rattle.split.specs.declared.grant.Row.{Row}
 use Rattle.split.specs.Limits.{priceOf, pricedLimit}
-use Rattle.split.specs.Grant.{rowOf, served}
-use Rattle.split.proofs.Rows.{rowAt, serve, sumOf, sum-set, every-set, every-start}
+use Rattle.split.specs.Grant.{rowOf, served, rowAt, serve}
+use Rattle.split.proofs.Rows.{sum-set, every-set, every-start}
 
 -- rows with the prices and caps of pensions
 pub data Matches : List Benefit → List Row → Type 0 where
@@ -67,21 +68,21 @@ run-serve {rs} i g place w fits affordable run = record {
     unpaid = rw (run .unserved i w) (Nat.zero-mul ((rowAt rs i) .price))
 
 -- one for a row that waits
-abbrev pub waits : Row → ℕ
-waits r = cond (r .waiting) 1 0
+abbrev pub waitOf : Row → ℕ
+waitOf r = cond (r .waiting) 1 0
 
 -- all wait at the start
-pub waits-start : (bs : List Benefit) → sumOf waits (map rowOf bs) ≡ length bs
+pub waits-start : (bs : List Benefit) → sumOf waitOf (map rowOf bs) ≡ length bs
 waits-start [] = refl
 waits-start (b ∷ bs) = omega (arith, waits-start bs)
 
 -- a row that waits is counted
-pub waits-counted : (rs : List Row) (j : ℕ) → (rowAt rs j) .waiting ≡ true → 1 ≤ sumOf waits rs
+pub waits-counted : (rs : List Row) (j : ℕ) → (rowAt rs j) .waiting ≡ true → 1 ≤ sumOf waitOf rs
 waits-counted [] j w = absurd (false≢true w)
 waits-counted (r ∷ rs) zero w = rw w (omega arith)
 waits-counted (r ∷ rs) (suc j) w = omega (arith, waits-counted rs j w)
 
 -- and no longer when it has been served
 pub waits-serve : (rs : List Row) (i g : ℕ) → i < length rs → (rowAt rs i) .waiting ≡ true
-    → sumOf waits (serve rs i g) + 1 ≡ sumOf waits rs
-waits-serve rs i g place w = omega (arith, rw w at (sum-set waits rs i (served (rowAt rs i) g) place))
+    → sumOf waitOf (serve rs i g) + 1 ≡ sumOf waitOf rs
+waits-serve rs i g place w = omega (arith, rw w at (sum-set waitOf rs i (served (rowAt rs i) g) place))

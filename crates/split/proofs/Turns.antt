@@ -10,12 +10,13 @@ use native.Mathlib.Omega.{arith}
 use lib.Dec.{ltb}
 use lib.ListN.{length}
 use borrow.Author.Tests.{ltb-true, ltb-false}
+use Rattle.calendar.specs.Sums.{sumOf}
 use Rattle.split.specs.declared.limits.Benefit.{Benefit}
 use Rattle.split.specs.declared.grant.Row.{Row}
 use Rattle.split.specs.Limits.{pricedLimit}
-use Rattle.split.specs.Grant.{rowOf, cheapest, most, turns}
-use Rattle.split.proofs.Rows.{rowAt, serve, sumOf, cheapest-lowest}
-use Rattle.split.proofs.Served.{waits, waits-start, waits-counted, waits-serve}
+use Rattle.split.specs.Grant.{rowOf, cheapest, most, nextLump, nextLeft, turns, rowAt, serve}
+use Rattle.split.proofs.Rows.{cheapest-lowest}
+use Rattle.split.proofs.Served.{waitOf, waits-start, waits-counted, waits-serve}
 use Rattle.split.proofs.Level.{State, state-start, state-serve, Settled, settle}
 
 -- the most is within the cap
@@ -42,37 +43,29 @@ most-reaches r left positive h = go (decLe (r .cap .0) (left / r .price))
         rw (Nat.min-eq-right {n = left / r .price} {m = r .cap .0} (omega arith)) at h
         in absurd (omega (arith, Nat.lt-div-mul-add {a = left} positive))
 
--- what the next turn gives
-abbrev dealt : List Row → ℕ → ℕ
-dealt rs left = most (rowAt rs (cheapest rs)) left
-
--- and what it leaves
-abbrev kept : List Row → ℕ → ℕ
-kept rs left = left - dealt rs left * (rowAt rs (cheapest rs)) .price
-
 -- a turn of the grant keeps the state
 state-turn : {bs : List Benefit} {floor : ℕ} {rs : List Row} {left : ℕ} → 1 ≤ floor → cheapest rs < length rs
-    → State bs floor rs left → State bs floor (serve rs (cheapest rs) (dealt rs left)) (kept rs left)
+    → State bs floor rs left → State bs floor (serve rs (cheapest rs) (nextLump rs left)) (nextLeft rs left)
 state-turn {rs} {left} positive found state =
     let price : 1 ≤ (rowAt rs (cheapest rs)) .price =
     omega (arith, state .fair (cheapest rs) .ahead (cheapest-lowest rs .waits found))
     in
-    state-serve (cheapest rs) (dealt rs left) (cheapest-lowest rs) found (most-capped (rowAt rs (cheapest rs)) left)
+    state-serve (cheapest rs) (nextLump rs left) (cheapest-lowest rs) found (most-capped (rowAt rs (cheapest rs)) left)
     (most-affordable (rowAt rs (cheapest rs)) left) (most-reaches (rowAt rs (cheapest rs)) left price) state
 
 -- as many turns as rows wait, or more, leave rows settled
-turns-settle : {bs : List Benefit} {floor : ℕ} → 1 ≤ floor → (n : ℕ) (rs : List Row) (left : ℕ) → sumOf waits rs ≤ n
+turns-settle : {bs : List Benefit} {floor : ℕ} → 1 ≤ floor → (n : ℕ) (rs : List Row) (left : ℕ) → sumOf waitOf rs ≤ n
     → State bs floor rs left → Settled bs floor (turns n rs left)
 unfolding turns
 turns-settle positive zero rs left count state = settle (λ j w. omega (arith, waits-counted rs j w)) state
 turns-settle {bs} {floor} positive (suc n) rs left count state =
     go (ltb (cheapest rs) (length rs)) refl
-    (λ found. turns-settle positive n (serve rs (cheapest rs) (dealt rs left)) (kept rs left)
-    (omega (arith, waits-serve rs (cheapest rs) (dealt rs left) found (cheapest-lowest rs .waits found)))
+    (λ found. turns-settle positive n (serve rs (cheapest rs) (nextLump rs left)) (nextLeft rs left)
+    (omega (arith, waits-serve rs (cheapest rs) (nextLump rs left) found (cheapest-lowest rs .waits found)))
     (state-turn positive found state))
   where
     after : List Row
-    after = turns n (serve rs (cheapest rs) (dealt rs left)) (kept rs left)
+    after = turns n (serve rs (cheapest rs) (nextLump rs left)) (nextLeft rs left)
 
     go : (t : Bool) → ltb (cheapest rs) (length rs) ≡ t → (cheapest rs < length rs → Settled bs floor after)
         → Settled bs floor (cond t after rs)

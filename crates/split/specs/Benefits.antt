@@ -1,20 +1,22 @@
 -- A pension of a case as the limits see it: the pension P after early payment, the factor E, and the cap ("Months and
 -- factors" and "Split" of document 01). Assumes nothing.
-use Prim.Native.Nat.{ℕ, _*_, _/_, min}
-use mathlib.Core.Bool.{Bool, cond, _&&_, _||_}
+use Prim.Native.Nat.{ℕ, _*_, _/_, _≤_, _<_, min}
+use mathlib.Core.Bool.{Bool, false, cond, _&&_, _||_}
 use mathlib.Core.List.{List, map}
+use mathlib.Core.Path.{_≡_}
 use lib.Dec.{ltb, eqb}
-use Rattle.calendar.specs.Calendar.{months, sixtiethBirthday}
+use lib.ListN.{length, getD}
+use Rattle.calendar.specs.Calendar.{earlier, months, sixtiethBirthday}
+use Rattle.calendar.specs.Tests.{within}
 use Rattle.factors.specs.declared.effective.Factor.{Factor}
 use Rattle.factors.specs.declared.effective.FactorTerms.{FactorTerms}
 use Rattle.factors.specs.Commutation.{commutationFactor}
-use Rattle.factors.specs.EarlyPayment.{reducedPension}
+use Rattle.factors.specs.EarlyPayment.{tableA, reducedPension}
 use Rattle.factors.specs.Effective.{effectiveFactor}
 use Rattle.split.specs.declared.case.Head.{Head}
 use Rattle.split.specs.declared.case.Pension.{Pension}
 use Rattle.split.specs.declared.limits.Benefit.{Benefit}
 use Rattle.split.specs.Refusal.{ageOf}
-use Rattle.calendar.specs.Tests.{within}
 
 -- P: "Kind 3: below age 720 months the pension becomes stated pension × Table A ÷ 1,000, down, at the months from
 -- commencement to the 60th birthday. From 720 months on it is kept whole. All later steps use this pension."
@@ -23,6 +25,15 @@ workedPension h p =
     cond (eqb (p .kind) 3 && ltb (ageOf h) 720)
     (reducedPension (p .stated .0) (months (h .commencement) (sixtiethBirthday (h .birth))))
     (p .stated .0)
+
+-- What is claimed of a kind 3 pension before 720 months, `left` months before the 60th birthday: the birthday is not past,
+-- Table A holds these months, 0 to 60, so that no default is met, and the pension is what its entry makes of the stated one.
+pub record EarlyPaid (h : Head) (p : Pension) (left : ℕ) : Type 0 where
+  pub ahead : earlier (sixtiethBirthday (h .birth)) (h .commencement) ≡ false
+  pub last : left ≤ 60
+  pub held : left < length tableA
+  pub entry : (775 ≤ getD tableA left 0) × (getD tableA left 0 ≤ 998)
+  pub worked : workedPension h p ≡ p .stated .0 * getD tableA left 0 / 1000
 
 -- the terms with F1 as given or looked up at the age
 unfoldable pub workedTerms : ℕ → FactorTerms → FactorTerms

@@ -1,6 +1,7 @@
 -- A case line's head and pensions ("Case line" of document 01), over any bytes. Assumes nothing.
-use Prim.Native.Nat.{ℕ, zero, suc, _+_, _*_}
+use Prim.Native.Nat.{ℕ, zero, suc, _+_, _-_, _*_}
 use mathlib.Core.List.{List, [], _∷_, _++_}
+use lib.ListN.{replicate}
 use Rattle.calendar.specs.Calendar.{date}
 use Rattle.factors.specs.declared.effective.FactorTerms.{FactorTerms}
 use Rattle.split.specs.declared.case.Head.{Head}
@@ -9,9 +10,18 @@ use Rattle.split.specs.declared.case.Pension.{Pension}
 use Rattle.split.specs.Frame.{numberAt, dateAt}
 
 -- "Head: member number 4 bytes, birth date, commencement date, count n of pensions 1 byte"
+unfoldable pub headAt : List ℕ → ℕ → Head
+headAt s at =
+    record {
+      member = numberAt s at 8;
+      birth = dateAt s (at + 8);
+      commencement = dateAt s (at + 16);
+      count = numberAt s (at + 24) 2;
+    }
+
+-- a line begins with it
 unfoldable pub headOf : List ℕ → Head
-headOf s =
-    record { member = numberAt s 0 8; birth = dateAt s 8; commencement = dateAt s 16; count = numberAt s 24 2 }
+headOf s = headAt s 0
 
 -- "service start date, service end date"
 unfoldable pub serviceAt : List ℕ → ℕ → Service
@@ -49,10 +59,29 @@ noPension =
       terms = record { f1 = 0; f2 = 0; f3 = 0; increase = 0 };
     }
 
--- the first k pensions, after the head's 26 characters
+-- the characters of the head, and of each pension
+abbrev pub headLength : ℕ
+headLength = 26
+
+abbrev pub pensionLength : ℕ
+pensionLength = 44
+
+-- "A line has 26 + 44n characters"
+abbrev pub caseLength : ℕ → ℕ
+caseLength n = headLength + pensionLength * n
+
+-- that of four pensions
+abbrev pub longestLine : ℕ
+longestLine = caseLength 4
+
+-- the first k pensions: each stands where a line of those before it ends
 unfoldable pub pensionsAt : List ℕ → ℕ → List Pension
 pensionsAt s zero = []
-pensionsAt s (suc k) = pensionsAt s k ++ (pensionAt s (26 + 44 * k) ∷ [])
+pensionsAt s (suc k) = pensionsAt s k ++ (pensionAt s (caseLength k) ∷ [])
+
+-- in four places, the rest of which stand for none
+abbrev pub placesAt : List ℕ → ℕ → List Pension
+placesAt s k = pensionsAt s k ++ replicate (4 - k) noPension
 
 -- the pensions of the line: as many as its head says
 abbrev pub pensionsOf : List ℕ → List Pension

@@ -1,7 +1,7 @@
 -- The grant ("Grant" of document 01): lowest price first, equal prices in line order, each pension the most
 -- its cap and the remaining priced limit allow. Assumes nothing.
 use Prim.Native.Nat.{ℕ, zero, suc, _-_, _*_, _/_, min}
-use mathlib.Core.Bool.{true, false, cond, _&&_, _||_}
+use mathlib.Core.Bool.{Bool, true, false, cond, _&&_, _||_}
 use mathlib.Core.List.{List, [], _∷_, map}
 use lib.Dec.{leb, ltb, eqb}
 use lib.ListN.{length, getD, set}
@@ -17,11 +17,19 @@ noRow = record { price = 0; cap = record { 0 = 0 }; lump = record { 0 = 0 }; wai
 abbrev pub rowOf : Benefit → Row
 rowOf b = record { price = priceOf (b .factor); cap = b .cap; lump = record { 0 = 0 }; waiting = true }
 
+-- the row at a place
+abbrev pub rowAt : List Row → ℕ → Row
+rowAt rs i = getD rs i noRow
+
+-- "lowest price first, equal prices in line order": a row has its turn before one behind it
+abbrev pub goesFirst : Row → Row → Bool
+goesFirst r behind = leb (r .price) (behind .price)
+
 -- the place of the first waiting row of the lowest price; the number of rows where none waits
 unfoldable pub cheapest : List Row → ℕ
 cheapest [] = 0
 cheapest (r ∷ rs) =
-    cond (r .waiting && (eqb (cheapest rs) (length rs) || leb (r .price) ((getD rs (cheapest rs) noRow) .price)))
+    cond (r .waiting && (eqb (cheapest rs) (length rs) || goesFirst r (rowAt rs (cheapest rs))))
     0
     (suc (cheapest rs))
 
@@ -33,20 +41,27 @@ most r left = min (r .cap .0) (left / r .price)
 abbrev pub served : Row → ℕ → Row
 served r g = record { price = r .price; cap = r .cap; lump = record { 0 = g }; waiting = false }
 
+-- the rows when the one at a place has had its turn and was given g
+abbrev pub serve : List Row → ℕ → ℕ → List Row
+serve rs i g = set rs i (served (rowAt rs i) g)
+
+-- what the next turn gives, the most that the cheapest waiting row may have
+abbrev pub nextLump : List Row → ℕ → ℕ
+nextLump rs left = most (rowAt rs (cheapest rs)) left
+
+-- and what it leaves of the limit
+abbrev pub nextLeft : List Row → ℕ → ℕ
+nextLeft rs left = left - nextLump rs left * (rowAt rs (cheapest rs)) .price
+
 -- n turns, with what is left of the priced limit: each serves the cheapest row that waits
 unfoldable pub turns : ℕ → List Row → ℕ → List Row
 turns zero rs left = rs
 turns (suc n) rs left =
-    cond (ltb (cheapest rs) (length rs))
-    (turns n
-    (set rs (cheapest rs) (served (getD rs (cheapest rs) noRow) (most (getD rs (cheapest rs) noRow) left)))
-    (left - most (getD rs (cheapest rs) noRow) left * (getD rs (cheapest rs) noRow) .price))
-    rs
+    cond (ltb (cheapest rs) (length rs)) (turns n (serve rs (cheapest rs) (nextLump rs left)) (nextLeft rs left)) rs
 
 -- the lumps of rows
 abbrev pub lumpsOf : List Row → List ℕ
-lumpsOf [] = []
-lumpsOf (r ∷ rs) = r .lump .0 ∷ lumpsOf rs
+lumpsOf rs = map (λ r. r .lump .0) rs
 
 -- the lumps granted, in line order: as many turns as there are pensions
 unfoldable pub grant : List Benefit → List ℕ

@@ -1,9 +1,12 @@
 pub mod Benefits
 pub mod Case
+pub mod Conditions
+pub mod Digits
 pub mod Figures
 pub mod Frame
 pub mod Grant
 pub mod Limits
-pub mod Parts
 pub mod Quote
+pub mod Ranges
+pub mod Reading
 pub mod Refusal

@@ -1,27 +1,34 @@
 -- Refusals 1 to 10 ("Refusals from the input" of document 01): ten conditions in its order, of which the lowest that
 -- holds is the refusal. Conditions on a pension hold of a case where they hold of some pension. Assumes nothing.
-use Prim.Native.Nat.{ℕ, _+_, _*_}
+use Prim.Native.Nat.{ℕ, _+_}
 use mathlib.Core.Bool.{Bool, cond, not, _&&_, _||_}
-use mathlib.Core.List.{List, [], _∷_}
+use mathlib.Core.List.{List, [], _∷_, _++_}
 use lib.Dec.{leb, ltb, eqb}
 use lib.ListN.{length}
 use Rattle.calendar.specs.Calendar.{inCalendar, earlier, months}
+use Rattle.calendar.specs.Sums.{sumOf}
+use Rattle.calendar.specs.Tests.{any, within, lowest}
 use Rattle.factors.specs.declared.effective.FactorTerms.{FactorTerms}
 use Rattle.split.specs.declared.case.Head.{Head}
 use Rattle.split.specs.declared.case.Pension.{Pension}
 use Rattle.split.specs.Frame.{badCharacter}
-use Rattle.calendar.specs.Tests.{any, within, lowest}
-use Rattle.split.specs.Case.{headOf, pensionsOf}
+use Rattle.split.specs.Case.{headOf, pensionsOf, caseLength}
 
 -- "Age is months from birth to commencement"
 unfoldable pub ageOf : Head → ℕ
 ageOf h = months (h .birth) (h .commencement)
 
--- 2. "Length is not 70, 114, 158 or 202, or n disagrees with it": "A line has 26 + 44n characters"
+-- 2. "Length is not 70, 114, 158 or 202, or n disagrees with it": not that of the 1 to 4 pensions that n counts
 unfoldable pub badLength : ℕ → ℕ → Bool
-badLength characters n =
-    not (eqb characters 70 || eqb characters 114 || (eqb characters 158 || eqb characters 202)) ||
-    not (eqb characters (26 + 44 * n))
+badLength characters n = not (within 1 4 n && eqb characters (caseLength n))
+
+-- conditions 1 and 2 of a line, in their order
+abbrev pub lineConditions : List ℕ → List Bool
+lineConditions s = badCharacter s ∷ badLength (length s) (headOf s .count) ∷ []
+
+-- the refusal of a line of which no case can be read
+unfoldable pub lineRefusal : List ℕ → ℕ
+lineRefusal s = lowest 1 (lineConditions s)
 
 -- 3. "A date is not in the calendar": of the head, and of a pension
 unfoldable pub undatedHead : Head → Bool
@@ -77,12 +84,11 @@ unfoldable pub unstated : Pension → Bool
 unstated p = eqb (p .stated .0) 0
 
 abbrev pub totalStated : List Pension → ℕ
-totalStated [] = 0
-totalStated (p ∷ ps) = p .stated .0 + totalStated ps
+totalStated ps = sumOf (λ p. p .stated .0) ps
 
--- conditions 3 to 10 of a case, in their order
-unfoldable pub conditions : Head → List Pension → List Bool
-conditions h ps =
+-- conditions 3 to 10 of a case, in their order, told whether the total is too high
+unfoldable pub conditionsWith : Bool → Head → List Pension → List Bool
+conditionsWith high h ps =
     (undatedHead h || any undated ps) ∷
     any (disordered h) ps ∷
     badAge (ageOf h) ∷
@@ -90,10 +96,11 @@ conditions h ps =
     any unlisted ps ∷
     any (wrongAge (ageOf h)) ps ∷
     any (noFactor (ageOf h)) ps ∷
-    (any unstated ps || ltb 50000000 (totalStated ps)) ∷ []
+    (any unstated ps || high) ∷ []
+
+abbrev pub conditions : Head → List Pension → List Bool
+conditions h ps = conditionsWith (ltb 50000000 (totalStated ps)) h ps
 
 -- the refusal of a line
 unfoldable pub refusalOf : List ℕ → ℕ
-refusalOf s =
-    lowest 1
-    (badCharacter s ∷ badLength (length s) (headOf s .count) ∷ conditions (headOf s) (pensionsOf s))
+refusalOf s = lowest 1 (lineConditions s ++ conditions (headOf s) (pensionsOf s))

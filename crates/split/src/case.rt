@@ -1,14 +1,15 @@
-// A case as its line has it: the head, and the pensions in an array of four places.
+// A case as its line has it: the head, and the pensions in an array of four places, read by one cursor.
+use crate::frame;
 use crate::frame::Cursor;
+use crate::refusal;
 use calendar::Date;
 use factors::effective::FactorTerms;
 use factors::money::YearlyPence;
 ghost use mathlib.Core.Path.{_≡_};
-ghost use mathlib.Core.List.{List};
-ghost use Prim.Native.Nat.{ℕ, _+_, _*_, _≤_};
-ghost use lib.ListN.{length, take};
-ghost use Rattle.split.specs.Case.{headOf, serviceAt, termsAt, pensionAt, pensionsAt};
-ghost use Rattle.split.specs.Parts.{Values, Digits};
+ghost use Prim.Native.Nat.{_+_, _≤_};
+ghost use Rattle.split.specs.Case.{headAt, serviceAt, termsAt, pensionAt, placesAt, noPension, headLength, pensionLength, longestLine};
+ghost use Rattle.split.specs.Digits.{Values, FieldOf, Taken};
+ghost use Rattle.split.specs.Reading.{refusedCase, caseOf};
 
 pub struct Head {
     pub member: u32,
@@ -30,36 +31,61 @@ pub struct Pension {
     pub terms: FactorTerms,
 }
 
+// Refusal 0 is a case that was read. Under 1 and 2, the refusals of a line, all is zero.
+pub struct Case {
+    pub refusal: u8,
+    pub head: Head,
+    pub pensions: [Pension; 4],
+}
+
+struct HeadField {
+    pub value: Head,
+    pub next: Cursor,
+}
+
 struct ServiceField {
     pub value: Service,
     pub next: Cursor,
 }
 
-pub fn read_head(digits: &[u8]) -> Head
-    requires { ⌜ Values (now digits) ⌝ }
-    ensures { λ r. ⌜ ((s : List ℕ) → Digits s (now (digits .entry)) → r ≡ headOf s) ⌝ }
+struct TermsField {
+    pub value: FactorTerms,
+    pub next: Cursor,
+}
+
+struct PensionField {
+    pub value: Pension,
+    pub next: Cursor,
+}
+
+fn read_head(digits: &[u8], at: Cursor) -> HeadField
+    requires { ⌜ (at .at + headLength ≤ longestLine) × Values (now digits) ⌝ }
+    ensures { λ r. ⌜ Taken (now (digits .entry)) (at .at) headAt headLength (r .value) (r .next .at) ⌝ }
 {
-    let start = Cursor { at: 0 };
-    let member = start.number(digits);
+    let member = at.number(digits);
     let after_member = member.next;
     let birth = after_member.date(digits);
     let after_birth = birth.next;
     let commencement = after_birth.date(digits);
     let after_commencement = commencement.next;
     let count = after_commencement.byte(digits);
+    let next = count.next;
     let born = birth.value;
     let commences = commencement.value;
-    Head {
-        member: member.value,
-        birth: born,
-        commencement: commences,
-        count: count.value,
+    HeadField {
+        value: Head {
+            member: member.value,
+            birth: born,
+            commencement: commences,
+            count: count.value,
+        },
+        next,
     }
 }
 
 fn read_service(digits: &[u8], at: Cursor) -> ServiceField
-    requires { ⌜ (at .at ≤ 186) × Values (now digits) ⌝ }
-    ensures { λ r. ⌜ ((s : List ℕ) → Digits s (now (digits .entry)) → r .value ≡ serviceAt s (at .at)) × (r .next .at ≡ at .at + 16) ⌝ }
+    requires { ⌜ (at .at + 16 ≤ longestLine) × Values (now digits) ⌝ }
+    ensures { λ r. ⌜ Taken (now (digits .entry)) (at .at) serviceAt 16 (r .value) (r .next .at) ⌝ }
 {
     let start = at.date(digits);
     let after_start = start.next;
@@ -76,9 +102,9 @@ fn read_service(digits: &[u8], at: Cursor) -> ServiceField
     }
 }
 
-fn read_terms(digits: &[u8], at: Cursor) -> FactorTerms
-    requires { ⌜ (at .at ≤ 186) × Values (now digits) ⌝ }
-    ensures { λ r. ⌜ ((s : List ℕ) → Digits s (now (digits .entry)) → r ≡ termsAt s (at .at)) ⌝ }
+fn read_terms(digits: &[u8], at: Cursor) -> TermsField
+    requires { ⌜ (at .at + 16 ≤ longestLine) × Values (now digits) ⌝ }
+    ensures { λ r. ⌜ Taken (now (digits .entry)) (at .at) termsAt 16 (r .value) (r .next .at) ⌝ }
 {
     let f1 = at.short(digits);
     let after_f1 = f1.next;
@@ -87,17 +113,21 @@ fn read_terms(digits: &[u8], at: Cursor) -> FactorTerms
     let f3 = after_f2.short(digits);
     let after_f3 = f3.next;
     let increase = after_f3.short(digits);
-    FactorTerms {
-        f1: f1.value,
-        f2: f2.value,
-        f3: f3.value,
-        increase: increase.value,
+    let next = increase.next;
+    TermsField {
+        value: FactorTerms {
+            f1: f1.value,
+            f2: f2.value,
+            f3: f3.value,
+            increase: increase.value,
+        },
+        next,
     }
 }
 
-fn read_pension(digits: &[u8], at: Cursor) -> Pension
-    requires { ⌜ (at .at ≤ 158) × Values (now digits) ⌝ }
-    ensures { λ r. ⌜ ((s : List ℕ) → Digits s (now (digits .entry)) → r ≡ pensionAt s (at .at)) ⌝ }
+fn read_pension(digits: &[u8], at: Cursor) -> PensionField
+    requires { ⌜ (at .at + pensionLength ≤ longestLine) × Values (now digits) ⌝ }
+    ensures { λ r. ⌜ Taken (now (digits .entry)) (at .at) pensionAt pensionLength (r .value) (r .next .at) ⌝ }
 {
     let kind = at.byte(digits);
     let after_kind = kind.next;
@@ -108,31 +138,35 @@ fn read_pension(digits: &[u8], at: Cursor) -> Pension
     let lift = after_service.byte(digits);
     let after_lift = lift.next;
     let terms = read_terms(digits, after_lift);
+    let next = terms.next;
     let served = service.value;
-    Pension {
-        kind: kind.value,
-        stated: YearlyPence(stated.value),
-        service: served,
-        lift: lift.value,
-        terms,
+    let given = terms.value;
+    PensionField {
+        value: Pension {
+            kind: kind.value,
+            stated: YearlyPence(stated.value),
+            service: served,
+            lift: lift.value,
+            terms: given,
+        },
+        next,
     }
 }
 
-fn no_date() -> Date {
-    Date {
+fn no_pension() -> Pension
+    ensures { λ r. ⌜ r ≡ noPension ⌝ }
+{
+    let none = Date {
         year: 0,
         month: 0,
         day: 0,
-    }
-}
-
-fn no_pension() -> Pension {
+    };
     Pension {
         kind: 0,
         stated: YearlyPence(0),
         service: Service {
-            start: no_date(),
-            end: no_date(),
+            start: none,
+            end: none,
         },
         lift: 0,
         terms: FactorTerms {
@@ -144,17 +178,61 @@ fn no_pension() -> Pension {
     }
 }
 
-// The first n pensions of a line, in as many places of the array.
-pub fn read_pensions(digits: &[u8], n: usize) -> [Pension; 4]
-    requires { ⌜ (n ≤ 4) × Values (now digits) ⌝ }
-    ensures { λ r. ⌜ ((s : List ℕ) → Digits s (now (digits .entry)) → take n r ≡ pensionsAt s n) × (length r ≡ 4) ⌝ }
+// The n pensions of a line, from the end of its head on, in the first places of the array.
+fn read_pensions(digits: &[u8], at: Cursor, n: usize) -> [Pension; 4]
+    requires { ⌜ (at .at ≡ headLength) × (n ≤ 4) × Values (now digits) ⌝ }
+    ensures { λ r. ⌜ FieldOf (now (digits .entry)) r (λ s. placesAt s n) ⌝ }
 {
     let mut pensions = [no_pension(); 4];
+    let mut next = at;
     let mut i = 0;
     while i < n {
-        let pension = read_pension(digits, Cursor { at: 26 + 44 * i });
+        let read = read_pension(digits, next);
+        let pension = read.value;
         pensions[i] = pension;
+        next = read.next;
         i += 1;
     }
     pensions
+}
+
+fn refused_case(refusal: u8) -> Case
+    ensures { λ r. ⌜ r ≡ refusedCase refusal ⌝ }
+{
+    let none = Date {
+        year: 0,
+        month: 0,
+        day: 0,
+    };
+    Case {
+        refusal,
+        head: Head {
+            member: 0,
+            birth: none,
+            commencement: none,
+            count: 0,
+        },
+        pensions: [no_pension(); 4],
+    }
+}
+
+// The case of a line, whatever its bytes, or refusal 1 or 2. One cursor goes through the whole line.
+pub fn read_case(line: &[u8]) -> Case
+    ensures { λ r. ⌜ r ≡ caseOf (now (line .entry)) ⌝ }
+{
+    if frame::has_bad_character(line) {
+        return refused_case(1);
+    }
+    let digits = frame::decode(line);
+    let read = read_head(&digits, Cursor { at: 0 });
+    let head = read.value;
+    if refusal::has_bad_length(line.len(), head.count) {
+        return refused_case(2);
+    }
+    let pensions = read_pensions(&digits, read.next, head.count as usize);
+    Case {
+        refusal: 0,
+        head,
+        pensions,
+    }
 }

@@ -2,14 +2,18 @@
 use calendar::Date;
 ghost use mathlib.Core.Path.{_≡_};
 ghost use mathlib.Core.Bool.{false};
-ghost use mathlib.Core.List.{List};
-ghost use Prim.Native.Nat.{ℕ, _+_, _*_, _%_, _^_, _≤_, _<_};
+ghost use Prim.Native.Nat.{_+_, _*_, _%_, _^_, _≤_, _<_};
 ghost use lib.ListN.{getD};
 ghost use Rattle.split.specs.Frame.{hexValue, noDigit, digitAt, numberAt, dateAt, badCharacter};
-ghost use Rattle.split.specs.Parts.{Values, Digits};
+ghost use Rattle.split.specs.Case.{longestLine};
+ghost use Rattle.split.specs.Digits.{Values, Digits, Taken, numberOf};
 
-// The characters of the longest case line.
-const LONGEST: usize = 202;
+// The characters of a head, of a pension, and of the longest case line.
+pub const HEAD_LENGTH: usize = 26;
+
+pub const PENSION_LENGTH: usize = 44;
+
+const LONGEST: usize = HEAD_LENGTH + 4 * PENSION_LENGTH;
 
 // The value of a character: 0-9 and A-F, and 16 for any other.
 pub fn hex_value(character: u8) -> u8
@@ -46,11 +50,11 @@ fn digit_value(character: u8) -> u8
 }
 
 // The digits of a line, as far as the longest case line goes; zeros behind its end.
-pub fn decode(line: &[u8]) -> [u8; 202]
+pub fn decode(line: &[u8]) -> [u8; LONGEST]
     requires { ⌜ badCharacter (now line) ≡ false ⌝ }
     ensures { λ r. ⌜ Digits (now (line .entry)) r ⌝ }
 {
-    let mut digits = [0u8; 202];
+    let mut digits = [0u8; LONGEST];
     let mut end = line.len();
     if LONGEST < end {
         end = LONGEST;
@@ -65,7 +69,7 @@ pub fn decode(line: &[u8]) -> [u8; 202]
 
 // The byte that two digits make.
 fn pair(digits: &[u8], at: usize) -> u8
-    requires { ⌜ (at ≤ 200) × Values (now digits) ⌝ }
+    requires { ⌜ (at + 2 ≤ longestLine) × Values (now digits) ⌝ }
     ensures { λ r. ⌜ r ≡ getD (now (digits .entry)) at 0 * 16 + getD (now (digits .entry)) (at + 1) 0 ⌝ }
 {
     digits[at] * 16 + digits[at + 1]
@@ -123,8 +127,8 @@ pub struct DateField {
 impl Cursor {
     // A number of one byte.
     pub fn byte(self, digits: &[u8]) -> ByteField
-        requires { ⌜ (self .at ≤ 200) × Values (now digits) ⌝ }
-        ensures { λ r. ⌜ ((s : List ℕ) → Digits s (now (digits .entry)) → r .value ≡ numberAt s (self .at) 2) × (r .next .at ≡ self .at + 2) ⌝ }
+        requires { ⌜ (self .at + 2 ≤ longestLine) × Values (now digits) ⌝ }
+        ensures { λ r. ⌜ Taken (now (digits .entry)) (self .at) (numberOf 2) 2 (r .value) (r .next .at) ⌝ }
     {
         let at = self.at;
         ByteField {
@@ -135,8 +139,8 @@ impl Cursor {
 
     // A number of two bytes.
     pub fn short(self, digits: &[u8]) -> ShortField
-        requires { ⌜ (self .at ≤ 198) × Values (now digits) ⌝ }
-        ensures { λ r. ⌜ ((s : List ℕ) → Digits s (now (digits .entry)) → r .value ≡ numberAt s (self .at) 4) × (r .next .at ≡ self .at + 4) ⌝ }
+        requires { ⌜ (self .at + 4 ≤ longestLine) × Values (now digits) ⌝ }
+        ensures { λ r. ⌜ Taken (now (digits .entry)) (self .at) (numberOf 4) 4 (r .value) (r .next .at) ⌝ }
     {
         let at = self.at;
         let high = pair(digits, at) as u16;
@@ -149,8 +153,8 @@ impl Cursor {
 
     // A number of four bytes.
     pub fn number(self, digits: &[u8]) -> NumberField
-        requires { ⌜ (self .at ≤ 194) × Values (now digits) ⌝ }
-        ensures { λ r. ⌜ ((s : List ℕ) → Digits s (now (digits .entry)) → r .value ≡ numberAt s (self .at) 8) × (r .next .at ≡ self .at + 8) ⌝ }
+        requires { ⌜ (self .at + 8 ≤ longestLine) × Values (now digits) ⌝ }
+        ensures { λ r. ⌜ Taken (now (digits .entry)) (self .at) (numberOf 8) 8 (r .value) (r .next .at) ⌝ }
     {
         let high = self.short(digits);
         let after_high = high.next;
@@ -164,8 +168,8 @@ impl Cursor {
 
     // A date: two bytes of year, one of month, one of day.
     pub fn date(self, digits: &[u8]) -> DateField
-        requires { ⌜ (self .at ≤ 194) × Values (now digits) ⌝ }
-        ensures { λ r. ⌜ ((s : List ℕ) → Digits s (now (digits .entry)) → r .value ≡ dateAt s (self .at)) × (r .next .at ≡ self .at + 8) ⌝ }
+        requires { ⌜ (self .at + 8 ≤ longestLine) × Values (now digits) ⌝ }
+        ensures { λ r. ⌜ Taken (now (digits .entry)) (self .at) dateAt 8 (r .value) (r .next .at) ⌝ }
     {
         let year = self.short(digits);
         let after_year = year.next;

@@ -6,10 +6,10 @@ use factors::money::LumpPence;
 ghost use mathlib.Core.Path.{_≡_};
 ghost use mathlib.Core.List.{map};
 ghost use Prim.Native.Nat.{ℕ, _-_, _*_, _≤_, _<_};
-ghost use lib.ListN.{length, getD, take, set};
+ghost use lib.ListN.{length, getD, take};
 ghost use Rattle.factors.specs.Effective.{FactorRange};
 ghost use Rattle.split.specs.Limits.{noBenefit, totalPension};
-ghost use Rattle.split.specs.Grant.{noRow, rowOf, cheapest, most, served, turns, lumpsOf, grant};
+ghost use Rattle.split.specs.Grant.{rowOf, rowAt, goesFirst, cheapest, most, serve, turns, lumpsOf, grant};
 
 // A pension in the grant: its price, its cap, the lump it has been given, and whether its turn is still to come.
 pub struct Row {
@@ -61,6 +61,13 @@ fn rows_of(benefits: [Benefit; 4], n: usize) -> [Row; 4]
     rows
 }
 
+// Whether a row has its turn before one behind it: lowest price first, equal prices in line order.
+fn goes_first(row: Row, behind: Row) -> bool
+    ensures { λ r. ⌜ r ≡ goesFirst row behind ⌝ }
+{
+    row.price <= behind.price
+}
+
 // The place of the first waiting row of the lowest price among the first n; n where none waits.
 fn cheapest_row(rows: [Row; 4], n: usize) -> usize
     requires { ⌜ n ≤ 4 ⌝ }
@@ -76,7 +83,7 @@ fn cheapest_row(rows: [Row; 4], n: usize) -> usize
                 best = i;
             } else {
                 let other = rows[best];
-                if row.price <= other.price {
+                if goes_first(row, other) {
                     best = i;
                 }
             }
@@ -100,20 +107,21 @@ fn most_of(row: Row, left: u64) -> u32
 
 // The row at a place has its turn.
 fn turn(rows: [Row; 4], place: usize, left: u64) -> Served
-    requires { ⌜ (place < 4) × (0 < getD rows place noRow .price) ⌝ }
-    ensures { λ r. ⌜ (r .rows ≡ set rows place (served (getD rows place noRow) (most (getD rows place noRow) left))) × (r .left ≡ left - most (getD rows place noRow) left * getD rows place noRow .price) ⌝ }
+    requires { ⌜ (place < 4) × (0 < rowAt rows place .price) ⌝ }
+    ensures { λ r. ⌜ (r .rows ≡ serve rows place (most (rowAt rows place) left)) × (r .left ≡ left - most (rowAt rows place) left * rowAt rows place .price) ⌝ }
 {
     let row = rows[place];
     let lump = most_of(row, left);
+    let price = row.price;
     let cap = row.cap;
     let mut after = rows;
     after[place] = Row {
-        price: row.price,
+        price,
         cap,
         lump: LumpPence(lump),
         waiting: false,
     };
-    let spent = lump as u64 * row.price;
+    let spent = lump as u64 * price;
     Served {
         rows: after,
         left: left - spent,
@@ -122,7 +130,7 @@ fn turn(rows: [Row; 4], place: usize, left: u64) -> Served
 
 // The first n rows after as many turns.
 fn granted_rows(rows: [Row; 4], n: usize, limit: u64) -> [Row; 4]
-    requires { ⌜ (n ≤ 4) × ((j : ℕ) → j < n → 0 < getD rows j noRow .price) ⌝ }
+    requires { ⌜ (n ≤ 4) × ((j : ℕ) → j < n → 0 < rowAt rows j .price) ⌝ }
     ensures { λ r. ⌜ (take n r ≡ turns n (take n rows) limit) × (length r ≡ 4) ⌝ }
 {
     let mut now = rows;

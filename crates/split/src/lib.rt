@@ -18,16 +18,13 @@ ghost use Rattle.split.specs.Quote.{quoteOf};
 pub fn quote(line: &[u8]) -> Quote
     ensures { λ r. ⌜ r ≡ quoteOf (now (line .entry)) ⌝ }
 {
-    if frame::has_bad_character(line) {
-        return quoting::refused_quote(1);
+    let case = case::read_case(line);
+    if case.refusal != 0 {
+        return quoting::refused_quote(case.refusal);
     }
-    let digits = frame::decode(line);
-    let head = case::read_head(&digits);
-    if refusal::has_bad_length(line.len(), head.count) {
-        return quoting::refused_quote(2);
-    }
+    let head = case.head;
+    let pensions = case.pensions;
     let n = head.count as usize;
-    let pensions = case::read_pensions(&digits, n);
     let refused = refusal::case_refusal(head, pensions, n);
     if refused != 0 {
         return quoting::refused_quote(refused);

@@ -6,13 +6,13 @@ use factors::effective::FactorTerms;
 use factors::money::LumpPence;
 use factors::money::YearlyPence;
 ghost use mathlib.Core.Path.{_≡_};
-ghost use Prim.Native.Nat.{ℕ, _*_, _≤_, _<_};
+ghost use Prim.Native.Nat.{ℕ, _+_, _*_, _≤_, _<_};
 ghost use lib.ListN.{length, getD, take};
 ghost use Rattle.factors.specs.Effective.{FactorRange};
 ghost use Rattle.split.specs.Case.{noPension};
 ghost use Rattle.split.specs.Refusal.{ageOf};
 ghost use Rattle.split.specs.Benefits.{workedPension, workedTerms, factorOf, limitedLump, quarterLump, capOf, benefitOf, benefitsOf};
-ghost use Rattle.split.specs.Limits.{priceOf, totalPension, pricedLimit};
+ghost use Rattle.split.specs.Limits.{roundedUp, priceOf, totalPension, pricedLimit};
 
 // A pension of a case as the limits see it: P, E and the cap.
 pub struct Benefit {
@@ -125,12 +125,20 @@ pub fn benefits_of(head: Head, pensions: [Pension; 4], n: usize) -> [Benefit; 4]
     benefits
 }
 
+// A quotient rounded up to a whole number.
+fn rounded_up(x: u64, y: u64) -> u64
+    requires { ⌜ (0 < y) × (x + y < 18446744073709551616) ⌝ }
+    ensures { λ r. ⌜ r ≡ roundedUp x y ⌝ }
+{
+    (x + (y - 1)) / y
+}
+
 // The price of one penny of lump, in billionths.
 pub fn price_of(e: Factor) -> u64
     requires { ⌜ FactorRange e ⌝ }
     ensures { λ r. ⌜ r ≡ priceOf e ⌝ }
 {
-    3000000000 + (20000000000 * e.bottom + (e.top - 1)) / e.top
+    3000000000 + rounded_up(20000000000 * e.bottom, e.top)
 }
 
 // The priced limit of the first n pensions.

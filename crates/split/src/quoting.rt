@@ -18,7 +18,7 @@ ghost use Rattle.split.specs.Benefits.{benefitOf};
 ghost use Rattle.split.specs.Limits.{total};
 ghost use Rattle.split.specs.Grant.{lumpsOf};
 ghost use Rattle.split.specs.Quote.{remainingOf, secondOf, shareOf, sharesOf, padded, noShare, refusedQuote, grantedQuote};
-ghost use Rattle.split.specs.Parts.{ShareRange, SharesRange};
+ghost use Rattle.split.specs.Ranges.{ShareRange, SharesRange};
 
 fn no_share() -> Share
     ensures { λ r. ⌜ r ≡ noShare ⌝ }

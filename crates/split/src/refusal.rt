@@ -1,14 +1,16 @@
 // Refusals 2 to 10: the length of a line, and the lowest condition that holds of its case.
 use crate::case::Head;
 use crate::case::Pension;
+use crate::frame;
 use factors::effective::FactorTerms;
 ghost use mathlib.Core.Path.{_≡_};
-ghost use mathlib.Core.List.{[], _∷_};
+ghost use mathlib.Core.Bool.{false};
+ghost use mathlib.Core.List.{[]};
 ghost use Prim.Native.Nat.{_≤_, _<_};
 ghost use lib.ListN.{take};
-ghost use Rattle.split.specs.Refusal.{ageOf, badLength, undatedHead, undated, disordered, badAge, unknownKind, listedF1, noIncrease, listedIncrease, unlisted, wrongAge, noFactor, unstated, conditions};
+ghost use Rattle.split.specs.Refusal.{ageOf, badLength, undatedHead, undated, disordered, badAge, unknownKind, listedF1, noIncrease, listedIncrease, unlisted, wrongAge, noFactor, unstated, conditions, conditionsWith};
 ghost use Rattle.calendar.specs.Tests.{lowest, within};
-ghost use Rattle.split.specs.Parts.{lower, headConditions, pensionConditions};
+ghost use Rattle.split.specs.Conditions.{lower, laterConditions, pensionConditions};
 
 fn is_within(low: u32, high: u32, x: u32) -> bool
     ensures { λ r. ⌜ r ≡ within low high x ⌝ }
@@ -19,10 +21,9 @@ fn is_within(low: u32, high: u32, x: u32) -> bool
 pub fn has_bad_length(characters: usize, n: u8) -> bool
     ensures { λ r. ⌜ r ≡ badLength characters n ⌝ }
 {
-    let wanted = 26 + 44 * (n as usize);
-    let short = (characters == 70) | (characters == 114);
-    let long = (characters == 158) | (characters == 202);
-    !(short | long) | !(characters == wanted)
+    let counted = is_within(1, 4, n as u32);
+    let wanted = frame::HEAD_LENGTH + frame::PENSION_LENGTH * (n as usize);
+    !(counted & (characters == wanted))
 }
 
 fn is_undated_head(head: Head) -> bool
@@ -133,7 +134,7 @@ fn is_unstated(p: Pension) -> bool
 // The lowest refusal that the head alone gives.
 fn head_refusal(head: Head, age: u32) -> u8
     requires { ⌜ age ≡ ageOf head ⌝ }
-    ensures { λ r. ⌜ r ≡ lowest 3 (headConditions head) ⌝ }
+    ensures { λ r. ⌜ r ≡ lowest 3 (conditionsWith false head []) ⌝ }
 {
     if is_undated_head(head) {
         return 3;
@@ -163,7 +164,7 @@ fn pension_refusal(head: Head, age: u32, p: Pension) -> u8
 
 // The same of the conditions after the kind.
 fn terms_refusal(age: u32, p: Pension) -> u8
-    ensures { λ r. ⌜ r ≡ lowest 7 (unlisted p ∷ wrongAge age p ∷ noFactor age p ∷ unstated p ∷ []) ⌝ }
+    ensures { λ r. ⌜ r ≡ lowest 7 (laterConditions age p) ⌝ }
 {
     if is_unlisted(p) {
         return 7;

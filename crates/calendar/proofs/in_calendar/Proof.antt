@@ -9,4 +9,4 @@ unfolding inCalendar yearIn monthIn dayIn lengthIn
 returns c = cc
 
 pub in-calendar-spec : {M : Type 1} → statement M
-in-calendar-spec = tie.close (tie.spec (search needs) returns)
+in-calendar-spec = tie.close (tie.spec (search needs) (search needs) returns)

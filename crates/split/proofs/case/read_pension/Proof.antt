@@ -1,22 +1,21 @@
 -- `read_pension` is the definition `pensionAt`, field by field.
 use borrow.Author.Needs.{needs}
-use Rattle.split.proofs.CaseLaws.{pension-read}
+use Rattle.split.specs.Case.{pensionAt}
+use Rattle.split.proofs.DigitsLaws.{made-of, _then_}
 use Rattle.split.proofs.case.read_pension.Statement.{statement}
 use Rattle.split.proofs.case.read_pension.Tie as tie
 
 returns : tie.Need-returns
+unfolding pensionAt
 returns c =
-    let terms = c .before in
+    let terms = c .before .before .before in
     let lift = terms .before .before in
     let service = lift .before .before in
     let stated = service .before .before in
     let kind = stated .before .before in
-    let args = kind .before .before .args in
-    pension-read (args .digits .now) (args .at .at) (kind .byte .result .next .at) (stated .number .result .next .at)
-    (service .read-service .result .next .at) (lift .byte2 .result .next .at) (kind .byte .result .value)
-    (stated .number .result .value) (lift .byte2 .result .value) (service .read-service .result .value)
-    (terms .read-terms .result) (kind .byte .ensures) (stated .number .ensures) (service .read-service .ensures)
-    (lift .byte2 .ensures) (terms .read-terms .ensures)
+    made-of (λ k p s l t. record { kind = k; stated = record { 0 = p }; service = s; lift = l; terms = t })
+    (kind .byte .ensures)
+    then stated .number .ensures then service .read-service .ensures then lift .byte2 .ensures then terms .read-terms .ensures
 
 pub read-pension-spec : {M : Type 1} → statement M
 read-pension-spec =

@@ -1,58 +1,52 @@
--- `read_pensions` reads the pensions one by one: the first `i` are those of the definition `pensionsAt`.
+-- `read_pensions` reads the pensions one by one: the first `i` are those of the definition `pensionsAt`, none is in the other
+-- places, and the cursor stands where a line of `i` pensions ends.
 use Prim.Native.Nat.{ℕ, _-_, _≤_, _<_, zero-le}
-use mathlib.Core.Path.{_≡_, refl, _∙_}
-use native.Mathlib.Nat.{le-of-lt, lt-of-lt-of-le, mul-le-mul-left, mul-le-mul-right}
+use mathlib.Core.Path.{_≡_, ap}
 use native.Mathlib.Numerals.{add-one-le}
-use lib.ListN.{length, take, length-set}
+use native.Mathlib.Omega.{arith}
+use lib.ListN.{replicate}
 use borrow.Author.Needs.{needs}
-use mir.Facts.{fits-below}
-use Rattle.split.specs.Case.{pensionsAt}
-use Rattle.split.proofs.FrameLaws.{Of}
-use Rattle.split.proofs.ListLaws.{up-to, fewer, at-end}
-use Rattle.split.proofs.CaseLaws.{pension-start, pensions-stored}
+use Rattle.split.specs.declared.case.Pension.{Pension}
+use Rattle.split.specs.Case.{pensionsAt, placesAt, caseLength}
+use Rattle.split.specs.Digits.{FieldOf}
+use Rattle.split.proofs.ListLoop.{at-end}
+use Rattle.split.proofs.CaseLaws.{pensions-stored}
 use Rattle.split.proofs.case.read_pensions.Statement.{statement}
 use Rattle.split.proofs.case.read_pensions.Tie as tie
 
 abbrev Inv-loop : tie.InvT-loop
-Inv-loop digits n pensions₀ i₀ pensions i = (i ≤ n) × (length pensions ≡ 4) × Of digits (take i pensions) (λ s. pensionsAt s i)
+Inv-loop digits n pensions₀ next₀ i₀ pensions next i =
+    (i ≤ n) × (next .at ≡ caseLength i) × FieldOf digits pensions (λ s. placesAt s i)
 
 abbrev μ-loop : tie.MeasureT-loop
-μ-loop digits n pensions₀ i₀ pensions i = n - i
+μ-loop digits n pensions₀ next₀ i₀ pensions next i = n - i
 
 loop-holds : tie.Need-loop-holds Inv-loop μ-loop
 unfolding pensionsAt
-loop-holds c = (zero-le, refl, λ s digits. refl)
-
--- a place in the loop is one of the four
-place : (c : tie.In-loop Inv-loop μ-loop) → c .before .loop .i < 4
-place c = lt-of-lt-of-le (c .loop-test .taken) (c .before .before .before .before .pre .0)
+loop-holds c =
+    (zero-le, c .before .before .pre .0, λ s digits. ap (λ (p : Pension). replicate 4 p) (c .no-pension .ensures))
 
 loop-again : tie.Need-loop-again Inv-loop μ-loop
 loop-again c =
-    let l = c .before .before .loop in
-    let a = c .before .before .before .before .before .args in (
-      add-one-le (c .before .loop-test .taken),
-      length-set (l .pensions) (l .i) (c .read-pension .result) ∙ l .inv .1,
-      pensions-stored (a .digits .now) (l .pensions) (l .i) (c .read-pension .result)
-          (up-to (l .pensions) (l .inv .1) (place (c .before))) (l .inv .2) (c .read-pension .ensures),
+    let read = c .before .before in
+    let test = read .before in
+    let l = test .before .loop in
+    let place : l .i < 4 = omega arith in (
+      add-one-le (test .loop-test .taken),
+      omega arith,
+      pensions-stored _ (l .pensions) (l .i) (l .next .at) (read .read-pension .result .value) place (l .inv .1) (l .inv .2)
+          (read .read-pension .ensures .value),
     )
 
 returns : tie.Need-returns Inv-loop μ-loop
 returns c =
-    let l = c .before .loop in (
-      λ s digits.
-          at-end (λ (k : ℕ). take k (l .pensions)) (λ (k : ℕ). pensionsAt s k) (l .i) (c .before .before .before .before .args .n)
-          (l .inv .0) (c .loop-test .left) (l .inv .2 s digits),
-      l .inv .1,
-    )
+    let l = c .before .loop in
+    λ s digits.
+    at-end (λ (k : ℕ). l .pensions) (λ (k : ℕ). placesAt s k) (l .i) (c .before .before .before .before .args .n) (l .inv .0)
+    (c .loop-test .left) (l .inv .2 s digits)
 
 pub read-pensions-spec : {M : Type 1} → statement M
 read-pensions-spec =
     tie.close
-    (tie.spec Inv-loop μ-loop (search needs) loop-holds
-    (λ c. fits-below tt (mul-le-mul-left 44 (le-of-lt (place c))))
-    (λ c. fits-below tt (pension-start (c .before .loop .i) (place c)))
-    (λ c κs. (pension-start (c .before .loop .i) (place c), c .before .before .before .before .pre .1))
-    (λ c. fits-below tt (mul-le-mul-right 28 (le-of-lt (place (c .before))))) (λ c. place (c .before))
-    (λ c. fits-below tt (add-one-le (place (c .before)))) (λ c. fewer _ _ (c .before .loop-test .taken)) loop-again
-    returns)
+    (tie.spec Inv-loop μ-loop (search needs) loop-holds (λ c κs. search needs) (search needs) (search needs) (search needs)
+    (search needs) loop-again returns)

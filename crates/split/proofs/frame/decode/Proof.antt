@@ -6,12 +6,14 @@ use native.Mathlib.Omega.{arith}
 use lib.ListN.{length}
 use borrow.Author.Needs.{needs}
 use Rattle.split.specs.Frame.{digitAt}
-use Rattle.split.proofs.FrameLaws.{Decoded, decoded-none, decoded-more, decoded-all, digit-known}
+use Rattle.split.specs.Case.{longestLine}
+use Rattle.split.proofs.FrameLaws.{digit-known}
+use Rattle.split.proofs.DigitsLaws.{Decoded, decoded-none, decoded-more, decoded-all}
 use Rattle.split.proofs.frame.decode.Statement.{statement}
 use Rattle.split.proofs.frame.decode.Tie as tie
 
 abbrev Inv-loop : tie.InvT-loop
-Inv-loop line digits₀ end i₀ digits i = (i ≤ end) × (end ≡ min (length line) 202) × Decoded line digits i
+Inv-loop line digits₀ end i₀ digits i = (i ≤ end) × (end ≡ min (length line) longestLine) × Decoded line digits i
 
 abbrev μ-loop : tie.MeasureT-loop
 μ-loop line digits₀ end i₀ digits i = end - i

@@ -7,8 +7,8 @@ use native.Mathlib.Numerals.{lt-of-le-of-ne}
 use lib.ListN.{take, drop}
 use mir.Facts.{fits-below}
 use Rattle.split.specs.Grant.{cheapest}
-use Rattle.split.proofs.ListLaws.{up-to, one-before}
-use Rattle.split.proofs.GrantLaws.{Next, place-next, place-end, place-start}
+use Rattle.split.proofs.ListLoop.{up-to, one-before}
+use Rattle.split.proofs.GrantLoop.{Next, place-next, place-end, place-start}
 use Rattle.split.proofs.grant.cheapest_row.Statement.{statement}
 use Rattle.split.proofs.grant.cheapest_row.Tie as tie
 
@@ -57,15 +57,18 @@ loop-again c =
 
 loop-again-2 : tie.Need-loop-again-2 Inv-loop μ-loop
 loop-again-2 c =
-    let row = c .before .before .before .before .before in
+    let row = c .before .before .before .before in
     let first = row .before .before in
-    (within first, within first, next first .here (row .if1 .taken) (λ h. c .if3 .taken))
+    (within first, within first, next first .here (row .if1 .taken) (λ h. sym (c .before .goes-first .ensures) ∙ c .if3 .taken))
 
 loop-again-3 : tie.Need-loop-again-3 Inv-loop μ-loop
 loop-again-3 c =
-    let second = c .before .before .before .before in
-    let first = second .before .before .before in
-    (within first, first .before .loop .inv .1, next first .behind (λ w. (found second, c .if3 .left)))
+    let second = c .before .before .before in
+    let first = second .before .before .before in (
+      within first,
+      first .before .loop .inv .1,
+      next first .behind (λ w. (found second, sym (c .before .goes-first .ensures) ∙ c .if3 .left)),
+    )
 
 loop-again-4 : tie.Need-loop-again-4 Inv-loop μ-loop
 loop-again-4 c =
@@ -85,7 +88,7 @@ cheapest-row-spec =
     tie.close
     (tie.spec Inv-loop μ-loop loop-holds (λ c. c .loop-test .taken)
     (λ c. fits-below tt (mul-le-mul-right 24 (le-of-lt (place c)))) place (λ c. less (c .before .before .before))
-    loop-again (λ c. fits-below tt (mul-le-mul-right 24 (le-of-lt (other c)))) other
-    (λ c. less (c .before .before .before .before .before .before .before)) loop-again-2
-    (λ c. less (c .before .before .before .before .before .before .before)) loop-again-3
+    loop-again (λ c. fits-below tt (mul-le-mul-right 24 (le-of-lt (other c)))) other (λ c κs. tt)
+    (λ c. less (c .before .before .before .before .before .before)) loop-again-2
+    (λ c. less (c .before .before .before .before .before .before)) loop-again-3
     (λ c. less (c .before .before)) loop-again-4 returns)

@@ -3,7 +3,7 @@ use mathlib.Core.Path.{_≡_}
 use native.Mathlib.Omega.{arith}
 use lib.ListN.{length}
 use borrow.Author.Needs.{needs}
-use Rattle.split.proofs.GrantLaws.{rows-priced, granted}
+use Rattle.split.proofs.GrantLoop.{rows-priced, grant-made}
 use Rattle.split.proofs.grant.grant_of.Statement.{statement}
 use Rattle.split.proofs.grant.grant_of.Tie as tie
 
@@ -20,7 +20,7 @@ returns : tie.Need-returns
 returns c =
     let a = c .before .before .before .args in
     let size : length (a .benefits) ≡ 4 = search needs in (
-      granted (a .benefits) (a .n) _ _ _ (omega arith) (c .before .before .rows-of .ensures .0)
+      grant-made (a .benefits) (a .n) _ _ _ (omega arith) (c .before .before .rows-of .ensures .0)
           (c .before .priced-limit .ensures) (c .granted-rows .ensures .0),
       c .granted-rows .ensures .1,
     )

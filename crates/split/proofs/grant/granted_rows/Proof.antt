@@ -6,10 +6,9 @@ use native.Mathlib.Numerals.{add-one-le}
 use native.Mathlib.Omega.{arith}
 use lib.ListN.{length, take, length-set}
 use mir.Facts.{fits-below}
-use Rattle.split.specs.Grant.{turns}
-use Rattle.split.proofs.ListLaws.{up-to, one-fewer, fewer}
-use Rattle.split.proofs.Rows.{rowAt}
-use Rattle.split.proofs.GrantLaws.{prices-positive, turns-next, turns-idle}
+use Rattle.split.specs.Grant.{most, turns, rowAt}
+use Rattle.split.proofs.ListLoop.{up-to, one-fewer, fewer}
+use Rattle.split.proofs.GrantLoop.{prices-positive, turns-next, turns-idle}
 use Rattle.split.proofs.grant.granted_rows.Statement.{statement}
 use Rattle.split.proofs.grant.granted_rows.Tie as tie
 
@@ -46,10 +45,11 @@ loop-again c =
     let test = c .before .before .before .before in
     let l = test .before .loop in
     let n = test .before .before .args .n in
+    let place = c .before .before .before .cheapest-row .result in
     let e = c .before .turn .ensures in (
       add-one-le (test .loop-test .taken),
       simp (e .0, length-set) (l .inv .1),
-      prices-positive n _ _ (l .now) _ (e .0) (l .inv .2),
+      prices-positive n place (most (rowAt (l .now) place) (l .left)) (l .now) _ (e .0) (l .inv .2),
       l .inv .3
           ∙ turns-next n (n - l .done) _ _ (l .left) _ (l .now) _
           (one-fewer (l .done) n (test .loop-test .taken)) (c .before .before .if1 .left)

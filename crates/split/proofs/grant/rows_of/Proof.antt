@@ -8,7 +8,7 @@ use lib.ListN.{length, take, length-set}
 use mir.Facts.{fits-below}
 use Rattle.split.specs.Limits.{noBenefit}
 use Rattle.split.specs.Grant.{rowOf}
-use Rattle.split.proofs.ListLaws.{map-stored, up-to, fewer, at-end}
+use Rattle.split.proofs.ListLoop.{map-stored, up-to, fewer, at-end}
 use Rattle.split.proofs.grant.rows_of.Statement.{statement}
 use Rattle.split.proofs.grant.rows_of.Tie as tie
 

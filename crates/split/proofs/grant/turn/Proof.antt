@@ -4,8 +4,7 @@ use mathlib.Core.Path.{ap}
 use native.Mathlib.Nat.{le-of-lt, mul-le-mul-right}
 use lib.ListN.{set}
 use mir.Facts.{fits-le, fits-below}
-use Rattle.split.specs.Grant.{served}
-use Rattle.split.proofs.Rows.{rowAt}
+use Rattle.split.specs.Grant.{served, rowAt}
 use Rattle.split.proofs.Turns.{most-affordable}
 use Rattle.split.proofs.grant.turn.Statement.{statement}
 use Rattle.split.proofs.grant.turn.Tie as tie
@@ -21,13 +20,13 @@ mul-row c = fits-below tt (mul-le-mul-right 24 (le-of-lt (c .pre .0)))
 
 mul-spent : tie.Need-mul-spent
 mul-spent c =
-    fits-le (affordable (c .before .before)) (c .before .before .before .before .fits .left)
+    fits-le (affordable (c .before)) (c .before .before .before .fits .left)
 
 returns : tie.Need-returns
 returns c =
-    let args = c .before .before .before .before .args in
+    let args = c .before .before .before .args in
     let row = rowAt (args .t1) (args .place) in
-    let most = c .before .before .most-of .ensures in
+    let most = c .before .most-of .ensures in
     (ap (λ (g : ℕ). set (args .t1) (args .place) (served row g)) most, ap (λ (g : ℕ). args .left - g * row .price) most)
 
 pub turn-spec : {M : Type 1} → statement M
@@ -35,4 +34,4 @@ turn-spec =
     tie.close
     (tie.spec mul-row (λ c. c .pre .0) (λ c κs. c .before .pre .1) (λ c. mul-row (c .before .before .before))
     (λ c. c .before .before .before .pre .0) (λ c. fits-below tt (le-of-lt (c .before .most-of .ok))) mul-spent
-    (λ c. affordable (c .before .before)) returns)
+    (λ c. affordable (c .before)) returns)

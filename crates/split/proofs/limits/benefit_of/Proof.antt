@@ -2,7 +2,7 @@
 use mathlib.Core.Path.{_≡_}
 use borrow.Author.Needs.{needs}
 use Rattle.split.specs.Benefits.{factorOf}
-use Rattle.split.proofs.LimitLaws.{factor-made, benefit-made}
+use Rattle.split.proofs.BenefitsLaws.{factor-made, benefit-made}
 use Rattle.split.proofs.limits.benefit_of.Statement.{statement}
 use Rattle.split.proofs.limits.benefit_of.Tie as tie
 

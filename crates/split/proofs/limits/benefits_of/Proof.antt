@@ -9,7 +9,7 @@ use Rattle.factors.specs.Effective.{FactorRange}
 use Rattle.split.specs.Case.{noPension}
 use Rattle.split.specs.Refusal.{ageOf}
 use Rattle.split.specs.Benefits.{factorOf, benefitOf, benefitsOf}
-use Rattle.split.proofs.ListLaws.{map-stored, up-to, fewer, at-end}
+use Rattle.split.proofs.ListLoop.{map-stored, up-to, fewer, at-end}
 use Rattle.split.proofs.limits.benefits_of.Statement.{statement}
 use Rattle.split.proofs.limits.benefits_of.Tie as tie
 

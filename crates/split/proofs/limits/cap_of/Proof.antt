@@ -1,6 +1,6 @@
 -- `cap_of` is the definition `capOf`: the branches take the lesser of the two.
 use borrow.Author.Needs.{needs}
-use Rattle.split.proofs.LimitLaws.{cap-most, cap-within, cap-unlimited}
+use Rattle.split.proofs.BenefitsLaws.{cap-most, cap-within, cap-unlimited}
 use Rattle.split.proofs.limits.cap_of.Statement.{statement}
 use Rattle.split.proofs.limits.cap_of.Tie as tie
 

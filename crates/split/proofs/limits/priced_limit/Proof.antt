@@ -6,9 +6,10 @@ use native.Mathlib.Numerals.{add-one-le}
 use lib.ListN.{getD, take}
 use borrow.Author.Needs.{needs}
 use mir.Facts.{fits-below}
+use Rattle.calendar.proofs.SumLaws.{sum-next, sum-part}
+use Rattle.split.specs.declared.limits.Benefit.{Benefit}
 use Rattle.split.specs.Limits.{noBenefit, totalPension}
-use Rattle.split.proofs.ListLaws.{up-to, fewer, at-end}
-use Rattle.split.proofs.LimitLaws.{pensions-next, pensions-within}
+use Rattle.split.proofs.ListLoop.{up-to, fewer, at-end}
 use Rattle.split.proofs.limits.priced_limit.Statement.{statement}
 use Rattle.split.proofs.limits.priced_limit.Tie as tie
 
@@ -32,12 +33,13 @@ next : (c : tie.In-loop Inv-loop μ-loop)
 next c =
     let l = c .before .loop in
     let start = c .before .before in
-    pensions-next (start .args .t1) (l .i) (l .total) (up-to (start .args .t1) (start .good .0 .1 .0 .1) (place c)) (l .inv .1)
+    sum-next (λ (b : Benefit). b .pension .0) (start .args .t1) noBenefit (l .i) (l .total) (up-to (start .args .t1) (start .good .0 .1 .0 .1) (place c)) (l .inv .1)
 
 -- a total of the first pensions is at most that of all
 within : (c : tie.At-loop Inv-loop μ-loop) (k t : ℕ) → k ≤ c .before .args .n → t ≡ totalPension (take k (c .before .args .t1))
     → t ≤ 50000000
-within c k t h e = le-trans (pensions-within (c .before .args .t1) k (c .before .args .n) t h e) (c .before .pre .1)
+within c k t h e =
+    rw e (le-trans (sum-part (λ (b : Benefit). b .pension .0) (c .before .args .t1) k (c .before .args .n) h) (c .before .pre .1))
 
 add-total : tie.Need-add-total Inv-loop μ-loop
 add-total c =

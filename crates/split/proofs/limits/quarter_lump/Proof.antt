@@ -4,7 +4,7 @@ use mathlib.Core.Path.{refl}
 use native.Mathlib.Omega.{arith}
 use borrow.Author.Needs.{needs}
 use Rattle.split.specs.Benefits.{quarterLump}
-use Rattle.split.proofs.LimitLaws.{quarter-at-most}
+use Rattle.split.proofs.BenefitsLaws.{quarter-at-most}
 use Rattle.split.proofs.limits.quarter_lump.Statement.{statement}
 use Rattle.split.proofs.limits.quarter_lump.Tie as tie
 

@@ -1,6 +1,6 @@
 -- `worked_pension` is the definition `workedPension`, branch by branch.
 use borrow.Author.Needs.{needs}
-use Rattle.split.proofs.LimitLaws.{worked-early, worked-whole}
+use Rattle.split.proofs.BenefitsLaws.{worked-early, worked-whole}
 use Rattle.split.proofs.limits.worked_pension.Statement.{statement}
 use Rattle.split.proofs.limits.worked_pension.Tie as tie
 

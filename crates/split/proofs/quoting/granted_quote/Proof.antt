@@ -13,7 +13,7 @@ use Rattle.split.specs.Benefits.{benefitsOf}
 use Rattle.split.specs.Limits.{total}
 use Rattle.split.specs.Grant.{grant}
 use Rattle.split.specs.Quote.{grantedQuote, lumpsGranted, padded, sharesOf}
-use Rattle.split.proofs.ShareLaws.{benefits-in-range, grant-in-range, lumps-small, shares-range}
+use Rattle.split.proofs.RangesLaws.{benefits-in-range, grant-in-range, lumps-small, shares-range}
 use Rattle.split.proofs.quoting.granted_quote.Statement.{statement}
 use Rattle.split.proofs.quoting.granted_quote.Tie as tie
 

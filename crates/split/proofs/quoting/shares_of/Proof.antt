@@ -9,8 +9,9 @@ use mir.Facts.{fits-below}
 use Rattle.split.specs.declared.answers.Share.{Share}
 use Rattle.split.specs.Grant.{lumpsOf}
 use Rattle.split.specs.Quote.{sharesOf, noShare}
-use Rattle.split.proofs.ListLaws.{up-to, fewer}
-use Rattle.split.proofs.ShareLaws.{benefit-at, shares-next, shares-whole}
+use Rattle.split.proofs.ListLoop.{up-to, fewer}
+use Rattle.split.proofs.BenefitsLaws.{benefit-at}
+use Rattle.split.proofs.QuotingLoop.{share-stored, shares-whole}
 use Rattle.split.proofs.quoting.shares_of.Statement.{statement}
 use Rattle.split.proofs.quoting.shares_of.Tie as tie
 
@@ -52,7 +53,7 @@ loop-again c =
     let test = c .before .before .before .before .before in
     let start = c .before .before .before .before .before .before .before .before in (
       add-one-le (test .loop-test .taken),
-      shares-next (start .args .head) (start .args .t2) (start .args .t4) (loop .i) (c .share-of .result) (loop .shares)
+      share-stored (start .args .head) (start .args .t2) (start .args .t4) (loop .i) (c .share-of .result) (loop .shares)
           (pensions-four start) (rows-four start) (place test) (loop .inv .1) (c .share-of .ensures),
     )
 

@@ -1,19 +1,21 @@
 -- `total_of` sums the lumps one by one: the sum is that of the first `i` rows, which is at most the whole.
 use Prim.Native.Nat.{ℕ, _-_, _≤_, _<_, zero-le}
-use mathlib.Core.Path.{_≡_, refl}
+use mathlib.Core.Path.{_≡_, refl, sym, _∙_}
 use native.Mathlib.Nat.{le-trans, le-of-lt, lt-of-lt-of-le, mul-le-mul-right}
 use native.Mathlib.Numerals.{add-one-le}
 use lib.ListN.{length, take}
 use mir.Facts.{fits-below}
-use Rattle.split.specs.Limits.{total}
-use Rattle.split.specs.Grant.{lumpsOf}
-use Rattle.split.proofs.ListLaws.{up-to, fewer, at-end}
-use Rattle.split.proofs.ShareLaws.{total-next, total-within}
+use Rattle.calendar.specs.Sums.{sumOf}
+use Rattle.calendar.proofs.SumLaws.{sum-next, sum-within}
+use Rattle.split.specs.declared.grant.Row.{Row}
+use Rattle.split.specs.Grant.{noRow}
+use Rattle.split.proofs.ListLoop.{up-to, fewer, at-end}
+use Rattle.split.proofs.QuotingLoop.{lumps-total}
 use Rattle.split.proofs.quoting.total_of.Statement.{statement}
 use Rattle.split.proofs.quoting.total_of.Tie as tie
 
 abbrev Inv-loop : tie.InvT-loop
-Inv-loop n rows sum₀ i₀ sum i = (i ≤ n) × (sum ≡ total (lumpsOf (take i rows)))
+Inv-loop n rows sum₀ i₀ sum i = (i ≤ n) × (sum ≡ sumOf (λ r. r .lump .0) (take i rows))
 
 abbrev μ-loop : tie.MeasureT-loop
 μ-loop n rows sum₀ i₀ sum i = n - i
@@ -36,23 +38,25 @@ add-sum c =
     let start = test .before .before in
     fits-below tt
     (le-trans
-    (total-within (start .args .t1) (loop .i) (start .args .n) (loop .sum) (row test) (test .loop-test .taken) (loop .inv .1))
-    (start .pre .1))
+    (sum-within (λ (r : Row). r .lump .0) (start .args .t1) noRow (loop .i) (start .args .n) (loop .sum) (row test)
+    (test .loop-test .taken) (loop .inv .1))
+    (rw lumps-total at (start .pre .1)))
 
 loop-again : tie.Need-loop-again Inv-loop μ-loop
 loop-again c =
     let test = c .before .before .before in
     let loop = test .before .loop in (
       add-one-le (test .loop-test .taken),
-      total-next (test .before .before .args .t1) (loop .i) (loop .sum) (row test) (loop .inv .1),
+      sum-next (λ (r : Row). r .lump .0) (test .before .before .args .t1) noRow (loop .i) (loop .sum) (row test) (loop .inv .1),
     )
 
 returns : tie.Need-returns Inv-loop μ-loop
 returns c =
     let loop = c .before .loop in
     let a = c .before .before .args in
-    at-end (λ (k : ℕ). loop .sum) (λ (k : ℕ). total (lumpsOf (take k (a .t1)))) (loop .i) (a .n) (loop .inv .0)
+    at-end (λ (k : ℕ). loop .sum) (λ (k : ℕ). sumOf (λ r. r .lump .0) (take k (a .t1))) (loop .i) (a .n) (loop .inv .0)
     (c .loop-test .left) (loop .inv .1)
+    ∙ sym (lumps-total (take (a .n) (a .t1)))
 
 pub total-of-spec : {M : Type 1} → statement M
 total-of-spec =

@@ -1,22 +1,26 @@
 -- `case_refusal` keeps the lowest condition of the head and the first `i` pensions, and their total, which counts at the end.
 use Prim.Native.Nat.{ℕ, _-_, _*_, _≤_, _<_, zero-le}
-use mathlib.Core.Path.{_≡_, refl, sym, _∙_}
+use mathlib.Core.Bool.{false}
+use mathlib.Core.Path.{_≡_, refl}
 use native.Mathlib.Nat.{le-of-lt, lt-of-lt-of-le, mul-le-mul-right}
 use native.Mathlib.Numerals.{add-one-le}
 use native.Mathlib.Omega.{arith}
 use lib.ListN.{length, take}
 use borrow.Author.Needs.{needs}
 use mir.Facts.{fits-below}
-use Rattle.split.specs.Refusal.{ageOf, totalStated}
 use Rattle.calendar.specs.Tests.{lowest}
-use Rattle.split.proofs.ListLaws.{up-to, fewer, at-end}
-use Rattle.split.proofs.RefusalLaws.{partly, partly-start, partly-next, total-next, total-above, total-within}
+use Rattle.calendar.proofs.SumLaws.{sum-next}
+use Rattle.split.specs.declared.case.Pension.{Pension}
+use Rattle.split.specs.Refusal.{ageOf, totalStated, conditionsWith}
+use Rattle.split.specs.Case.{noPension}
+use Rattle.split.proofs.ListLoop.{up-to, fewer, at-end}
+use Rattle.split.proofs.RefusalLoop.{conditions-next, total-above, total-within}
 use Rattle.split.proofs.refusal.case_refusal.Statement.{statement}
 use Rattle.split.proofs.refusal.case_refusal.Tie as tie
 
 abbrev Inv-loop : tie.InvT-loop
 Inv-loop head n pensions age refusal₀ total₀ i₀ refusal total i =
-    (i ≤ n) × (refusal ≡ lowest 3 (partly head (take i pensions))) × (total ≡ totalStated (take i pensions))
+    (i ≤ n) × (refusal ≡ lowest 3 (conditionsWith false head (take i pensions))) × (total ≡ totalStated (take i pensions))
     × (total ≤ i * 4294967295)
 
 abbrev μ-loop : tie.MeasureT-loop
@@ -28,7 +32,7 @@ head-refusal-requires c κs = c .months-between .ensures
 
 loop-holds : tie.Need-loop-holds Inv-loop μ-loop
 loop-holds c =
-    (zero-le, c .head-refusal .ensures ∙ sym (partly-start (c .before .before .before .before .args .head)), refl, zero-le)
+    (zero-le, c .head-refusal .ensures, refl, zero-le)
 
 -- a place in the loop is one of the four
 place : (c : tie.In-loop Inv-loop μ-loop) → c .before .loop .i < 4
@@ -47,22 +51,22 @@ loop-again c =
     up-to (start .args .t2) (start .good .1 .0 .1 .0 .1) (place test)
     in (
       add-one-le (test .loop-test .taken),
-      partly-next (start .args .head) (start .args .t2) (loop .i) _ _ _ pension (loop .inv .1)
+      conditions-next (start .args .head) (start .args .t2) (loop .i) _ _ _ pension (loop .inv .1)
           (c .before .before .pension-refusal .ensures) (c .before .lower-of .ensures),
-      total-next (start .args .t2) (loop .i) (loop .total) pension (loop .inv .2),
+      sum-next (λ (p : Pension). p .stated .0) (start .args .t2) noPension (loop .i) (loop .total) pension (loop .inv .2),
       omega arith,
     )
 
 -- after the loop the refusal and the total are those of all n
 refusal-whole : (c : tie.After-loop Inv-loop μ-loop)
     → c .before .loop .refusal
-    ≡ lowest 3 (partly (c .before .before .before .before .before .before .args .head)
+    ≡ lowest 3 (conditionsWith false (c .before .before .before .before .before .before .args .head)
     (take (c .before .before .before .before .before .before .args .n)
     (c .before .before .before .before .before .before .args .t2)))
 refusal-whole c =
     let loop = c .before .loop in
     let a = c .before .before .before .before .before .before .args in
-    at-end (λ (k : ℕ). loop .refusal) (λ (k : ℕ). lowest 3 (partly (a .head) (take k (a .t2)))) (loop .i) (a .n) (loop .inv .0)
+    at-end (λ (k : ℕ). loop .refusal) (λ (k : ℕ). lowest 3 (conditionsWith false (a .head) (take k (a .t2)))) (loop .i) (a .n) (loop .inv .0)
     (c .loop-test .left) (loop .inv .1)
 
 total-whole : (c : tie.After-loop Inv-loop μ-loop)

@@ -1,28 +1,28 @@
 -- `head_refusal`: the first test that passes is the lowest condition.
-use borrow.Author.Needs.{needs}
+use mathlib.Core.Bool.{or-false}
 use mathlib.Core.Path.{_≡_, sym, _∙_, ap}
-use Rattle.split.specs.Refusal.{ageOf, badAge}
-use Rattle.split.specs.Parts.{headConditions}
+use borrow.Author.Needs.{needs}
+use Rattle.split.specs.Refusal.{ageOf, badAge, conditionsWith}
 use Rattle.split.proofs.refusal.head_refusal.Statement.{statement}
 use Rattle.split.proofs.refusal.head_refusal.Tie as tie
 
 returns : tie.Need-returns
-unfolding headConditions
-returns c = simp (headConditions, ← c .before .is-undated-head .ensures, c .if1 .taken)
+unfolding conditionsWith
+returns c = simp (conditionsWith, or-false, ← c .before .is-undated-head .ensures, c .if1 .taken)
 
 -- the age was worked out
 aged : (c : tie.After-is-bad-age) → badAge (ageOf (c .before .before .before .args .head)) ≡ c .is-bad-age .result
 aged c = ap badAge (sym (c .before .before .before .pre)) ∙ sym (c .is-bad-age .ensures)
 
 returns-2 : tie.Need-returns-2
-unfolding headConditions
+unfolding conditionsWith
 returns-2 c =
-    simp (headConditions, ← c .before .before .before .is-undated-head .ensures, c .before .before .if1 .left, aged (c .before), c .if2 .taken)
+    simp (conditionsWith, or-false, ← c .before .before .before .is-undated-head .ensures, c .before .before .if1 .left, aged (c .before), c .if2 .taken)
 
 returns-3 : tie.Need-returns-3
-unfolding headConditions
+unfolding conditionsWith
 returns-3 c =
-    simp (headConditions, ← c .before .before .before .is-undated-head .ensures, c .before .before .if1 .left, aged (c .before), c .if2 .left)
+    simp (conditionsWith, or-false, ← c .before .before .before .is-undated-head .ensures, c .before .before .if1 .left, aged (c .before), c .if2 .left)
 
 pub head-refusal-spec : {M : Type 1} → statement M
 head-refusal-spec = tie.close (tie.spec (search needs) returns (search needs) returns-2 returns-3)

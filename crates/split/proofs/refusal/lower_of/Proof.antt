@@ -1,7 +1,7 @@
 -- `lower_of` is the definition `lower`, branch by branch.
 use borrow.Author.Tests.{eq-eqb, ne-eqb}
 use native.Mathlib.Omega.{arith}
-use Rattle.split.specs.Parts.{lower}
+use Rattle.split.specs.Conditions.{lower}
 use Rattle.split.proofs.refusal.lower_of.Statement.{statement}
 use Rattle.split.proofs.refusal.lower_of.Tie as tie
 

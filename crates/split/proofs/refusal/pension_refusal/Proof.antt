@@ -1,7 +1,7 @@
 -- `pension_refusal`: the first test that passes is the lowest condition; those after the kind are the callee's.
 use borrow.Author.Needs.{needs}
 use mathlib.Core.Path.{sym, _∙_}
-use Rattle.split.proofs.RefusalLaws.{pension-lowest}
+use Rattle.split.proofs.ConditionsLaws.{pension-lowest}
 use Rattle.split.proofs.refusal.pension_refusal.Statement.{statement}
 use Rattle.split.proofs.refusal.pension_refusal.Tie as tie
 

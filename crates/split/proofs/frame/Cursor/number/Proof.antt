@@ -1,19 +1,13 @@
 -- `number` is a number of 8 digits: two of 4, joined.
-use native.Mathlib.Omega.{arith}
 use borrow.Author.Needs.{needs}
-use Rattle.split.proofs.FrameLaws.{number-joined}
+use Rattle.split.proofs.DigitsLaws.{number-joined}
 use Rattle.split.proofs.frame.Cursor.number.Statement.{statement}
 use Rattle.split.proofs.frame.Cursor.number.Tie as tie
 
 returns : tie.Need-returns
 returns c =
     let low = c .before .before .before in
-    let high = low .before .before in
-    let args = high .before .before .args in (
-      number-joined (args .digits .now) (args .self .at) (high .short .result .next .at) 4 (high .short .result .value)
-          (low .short2 .result .value) (high .short .ensures .0) (high .short .ensures .1) (low .short2 .ensures .0),
-      omega arith,
-    )
+    number-joined (low .before .before .short .ensures) (low .short2 .ensures)
 
 pub number-spec : {M : Type 1} → statement M
 number-spec =

@@ -3,21 +3,16 @@ use Prim.Native.Nat.{_+_}
 use mathlib.Core.Path.{refl}
 use native.Mathlib.Omega.{arith}
 use borrow.Author.Needs.{needs}
-use Rattle.split.proofs.FrameLaws.{pair-read, number-joined}
+use Rattle.split.proofs.DigitsLaws.{pair-read, number-joined}
 use Rattle.split.proofs.frame.Cursor.short.Statement.{statement}
 use Rattle.split.proofs.frame.Cursor.short.Tie as tie
 
 returns : tie.Need-returns
 returns c =
     let high = c .before in
-    let args = high .before .before .args in
-    let d = args .digits .now in
-    let at = args .self .at in (
-      number-joined d at (at + 2) 2 (high .pair .result) (c .pair2 .result)
-          (pair-read d at (high .pair .result) (omega arith) (high .pair .ensures)) refl
-          (pair-read d (at + 2) (c .pair2 .result) (omega arith) (c .pair2 .ensures)),
-      refl,
-    )
+    let at = high .before .before .args .self .at in
+    number-joined (pair-read at (omega arith) (high .pair .ensures) refl)
+    (pair-read (at + 2) (omega arith) (c .pair2 .ensures) (omega arith))
 
 pub short-spec : {M : Type 1} → statement M
 short-spec =

@@ -1,18 +1,24 @@
--- Laws of lists for loops that go through one or fill one: `any` by the next element or by one more at the end, what a
--- test that holds of none says of each, a part that grows by a store, and how far a loop has come. Assumes nothing.
-use mathlib.Core.Path.{_≡_, sym}
-use mathlib.Core.Bool.{true≢false}
-use mathlib.Core.List.{List, [], _∷_, _++_, map, map-append}
+-- What a turn of a loop that goes through a list or fills one does: a part grows by the next element or by a store, and
+-- how far the loop has come. Assumes nothing.
 use Prim.Native.Nat.{ℕ, suc, _+_, _-_, _<_, _≤_}
+use mathlib.Core.Path.{_≡_, sym}
+use mathlib.Core.List.{List, [], _∷_, _++_, map, map-append, append-assoc}
 use native.Mathlib.Nat.{le-antisymm}
 use native.Mathlib.Numerals.{add-one}
 use native.Mathlib.Omega.{arith}
-use lib.ListN.{length, getD, take, set}
-use lib.Seq.{take-suc, take-suc-set}
+use lib.ListN.{length, getD, take, set, replicate}
+use lib.Seq.{take-suc, take-suc-set, set-at}
 
 -- a store just past a part makes the part one longer
 pub take-set-more : {A : Type 0} (l : List A) (i : ℕ) (x : A) → i < length l → take (i + 1) (set l i x) ≡ take i l ++ (x ∷ [])
 take-set-more l i x h = rw add-one (take-suc-set l i x h)
+
+-- also where others follow the part
+pub store-next : {A : Type 0} (xs : List A) (n i : ℕ) (x z : A) → length xs ≡ i → i < n
+    → set (xs ++ replicate (n - i) z) i x ≡ (xs ++ (x ∷ [])) ++ replicate (n - (i + 1)) z
+store-next xs n i x z counted h =
+    let left : n - i ≡ suc (n - (i + 1)) = omega arith in
+    rw (left, set-at xs z (replicate (n - (i + 1)) z) x i counted, append-assoc)
 
 -- a part and the next element are the longer part
 pub take-next : {A : Type 0} (l : List A) (i : ℕ) (d : A) → i < length l → take (i + 1) l ≡ take i l ++ (getD l i d ∷ [])

@@ -5,51 +5,51 @@ use mathlib.Core.Bool.{Bool, true, false, cond, _&&_, _||_}
 use mathlib.Core.List.{List, [], _∷_, map}
 use mathlib.Core.Path.{_≡_, refl, sym, _∙_, ap}
 use native.Mathlib.Omega.{arith}
-use lib.Dec.{leb, eqb}
+use lib.Dec.{eqb}
 use lib.ListN.{length, getD, take, drop, length-take, length-drop, drop-of-length-le, List·getD-map}
 use lib.Seq.{drop-cons, take-set-lt, getD-take, getD-drop, length-take-le, map-set-same}
-use borrow.Author.Tests.{lt-ltb, le-ltb, le-leb, lt-leb, eqb-false, ne-eqb}
+use borrow.Author.Tests.{lt-ltb, le-ltb, eqb-false, ne-eqb}
 use Rattle.split.specs.declared.limits.Benefit.{Benefit}
 use Rattle.split.specs.declared.grant.Row.{Row}
 use Rattle.split.specs.Limits.{pricedLimit}
-use Rattle.split.specs.Grant.{noRow, rowOf, served, cheapest, most, turns, lumpsOf, grant}
+use Rattle.split.specs.Grant.{noRow, rowOf, goesFirst, served, cheapest, most, turns, lumpsOf, grant, rowAt, serve}
 use Rattle.split.proofs.Prices.{price-floor}
-use Rattle.split.proofs.Rows.{rowAt, serve, cheapest-lowest}
+use Rattle.split.proofs.Rows.{cheapest-inside}
 
 -- the first row is the cheapest where it waits and none behind it is cheaper
 cheapest-here : (r : Row) (rs : List Row) → r .waiting ≡ true
-    → (cheapest rs < length rs → r .price ≤ (rowAt rs (cheapest rs)) .price) → cheapest (r ∷ rs) ≡ 0
+    → (cheapest rs < length rs → goesFirst r (rowAt rs (cheapest rs)) ≡ true) → cheapest (r ∷ rs) ≡ 0
 unfolding cheapest
 cheapest-here r rs w least = rw w (go (eqb (cheapest rs) (length rs)) refl)
   where
     go : (e : Bool) → eqb (cheapest rs) (length rs) ≡ e
-        → cond (e || leb (r .price) ((rowAt rs (cheapest rs)) .price)) 0 (suc (cheapest rs)) ≡ 0
+        → cond (e || goesFirst r (rowAt rs (cheapest rs))) 0 (suc (cheapest rs)) ≡ 0
     go true e = refl
     go false e =
         let found : cheapest rs < length rs =
-        omega (arith, cheapest-lowest rs .inside, eqb-false (cheapest rs) (length rs) e)
-        in rw (le-leb (r .price) ((rowAt rs (cheapest rs)) .price) (least found))
+        omega (arith, cheapest-inside rs, eqb-false (cheapest rs) (length rs) e)
+        in rw (least found)
 
 -- and the place found behind it stays where it does not wait or is dearer
 cheapest-behind : (r : Row) (rs : List Row)
-    → (r .waiting ≡ true → (cheapest rs < length rs) × ((rowAt rs (cheapest rs)) .price < r .price))
+    → (r .waiting ≡ true → (cheapest rs < length rs) × (goesFirst r (rowAt rs (cheapest rs)) ≡ false))
     → cheapest (r ∷ rs) ≡ suc (cheapest rs)
 unfolding cheapest
 cheapest-behind r rs dearer = go (r .waiting) refl
   where
     go : (w : Bool) → r .waiting ≡ w
-        → cond (w && (eqb (cheapest rs) (length rs) || leb (r .price) ((rowAt rs (cheapest rs)) .price))) 0 (suc (cheapest rs))
+        → cond (w && (eqb (cheapest rs) (length rs) || goesFirst r (rowAt rs (cheapest rs)))) 0 (suc (cheapest rs))
         ≡ suc (cheapest rs)
     go false w = refl
     go true w =
         let d = dearer w in
-        rw (ne-eqb (cheapest rs) (length rs) (λ e. omega arith), lt-leb (r .price) ((rowAt rs (cheapest rs)) .price) (d .1))
+        rw (ne-eqb (cheapest rs) (length rs) (λ e. omega arith), d .1)
 
 -- What row k makes of `best`, the place of the cheapest behind it among the first n rows: k takes its place, or it stays.
 pub record Next (rs : List Row) (n k best : ℕ) : Type 0 where
-  pub here : (rowAt rs k) .waiting ≡ true → (best < n → (rowAt rs k) .price ≤ (rowAt rs best) .price)
+  pub here : (rowAt rs k) .waiting ≡ true → (best < n → goesFirst (rowAt rs k) (rowAt rs best) ≡ true)
       → k ≡ k + cheapest (drop k (take n rs))
-  pub behind : ((rowAt rs k) .waiting ≡ true → (best < n) × ((rowAt rs best) .price < (rowAt rs k) .price))
+  pub behind : ((rowAt rs k) .waiting ≡ true → (best < n) × (goesFirst (rowAt rs k) (rowAt rs best) ≡ false))
       → best ≡ k + cheapest (drop k (take n rs))
 
 pub place-next : (rs : List Row) (n i k best : ℕ) → i ≡ suc k → i ≤ n → n ≤ length rs
@@ -59,13 +59,13 @@ place-next rs n i k best next inside whole found = record {
       rw (
         from,
         cheapest-here (rowAt rs k) (drop i (take n rs)) w
-            (λ h. rw (other (omega (arith, count))) (least (omega (arith, count)))),
+            (λ h. let place : best < n = omega (arith, count) in ap (goesFirst (rowAt rs k)) (other place) ∙ least place),
       ) (omega arith);
   behind = λ dearer.
       rw (
         from,
         cheapest-behind (rowAt rs k) (drop i (take n rs))
-            (λ w. (omega (arith, count, dearer w), rw (other (dearer w .0)) (dearer w .1))),
+            (λ w. (omega (arith, count, dearer w), ap (goesFirst (rowAt rs k)) (other (dearer w .0)) ∙ dearer w .1)),
       ) (omega arith);
 }
   where
@@ -137,8 +137,8 @@ rows-priced bs rs n whole e j h =
     go (b ∷ l) (suc k) p = go l k (omega arith)
 
 -- as many turns of the first n rows as there are pensions are the grant
-pub granted : (bs : List Benefit) (n limit : ℕ) (rs after : List Row) → n ≤ length bs
+pub grant-made : (bs : List Benefit) (n limit : ℕ) (rs after : List Row) → n ≤ length bs
     → take n rs ≡ map rowOf (take n bs) → limit ≡ pricedLimit (take n bs) → take n after ≡ turns n (take n rs) limit
     → lumpsOf (take n after) ≡ grant (take n bs)
 unfolding grant
-granted bs n limit rs after whole made l e = rw (length-take-le n bs whole, e, made, l)
+grant-made bs n limit rs after whole made l e = rw (length-take-le n bs whole, e, made, l)

@@ -6,24 +6,25 @@ use mathlib.Core.Bool.{Bool, true, false, cond, not, _&&_}
 use mathlib.Core.List.{List, [], _∷_}
 use mathlib.Core.Path.{_≡_, refl}
 use native.Mathlib.Omega.{arith}
-use lib.Dec.{leb, ltb, eqb}
+use lib.Dec.{leb, eqb, ltb}
 use lib.ListN.{length, getD}
-use borrow.Author.Tests.{ltb-false, not-false, eq-eqb, ne-eqb}
-use Rattle.calendar.specs.Calendar.{months, sixtiethBirthday}
-use Rattle.calendar.proofs.TestLaws.{and-left, and-right, within-bounds, or-left, or-right, any-none, none-holds}
+use borrow.Author.Tests.{lt-ltb, eqb-true, not-false, ltb-false, eq-eqb, ne-eqb}
+use Rattle.calendar.specs.Tests.{within, lowest, any}
+use Rattle.calendar.specs.Calendar.{inCalendar, months, sixtiethBirthday}
+use Rattle.calendar.proofs.Laws.{months-to-sixtieth, sixtieth-ahead}
+use Rattle.calendar.proofs.TestLaws.{and-right, within-bounds, and-left, or-left, or-right, any-none, none-holds}
 use Rattle.factors.specs.declared.effective.FactorTerms.{FactorTerms}
+use Rattle.factors.specs.Effective.{FactorRange, effectiveFactor}
 use Rattle.factors.specs.Commutation.{commutationFactor}
-use Rattle.factors.specs.EarlyPayment.{reducedPension}
-use Rattle.factors.specs.Effective.{effectiveFactor, FactorRange}
-use Rattle.factors.proofs.Laws.{DeferredTerms, direct-range, deferred-range, active-range, commutation-range, reduced-at-most}
+use Rattle.factors.specs.EarlyPayment.{tableA, earlyPaymentFactor, reducedPension}
+use Rattle.factors.proofs.Laws.{DeferredTerms, direct-range, deferred-range, active-range, commutation-range, early-payment-range, reduced-at-most}
 use Rattle.split.specs.declared.case.Head.{Head}
 use Rattle.split.specs.declared.case.Pension.{Pension}
 use Rattle.split.specs.Case.{noPension}
-use Rattle.calendar.specs.Tests.{any, lowest, within}
-use Rattle.split.specs.Refusal.{ageOf, undatedHead, undated, disordered, badAge, unknownKind, unlisted, wrongAge, noFactor, unstated, totalStated, conditions, listedF1, noIncrease, listedIncrease}
-use Rattle.split.specs.Benefits.{workedPension, workedTerms, factorOf, limitedLump, benefitOf, benefitsOf}
-use Rattle.split.specs.Limits.{PositiveTops, totalCap, totalPension}
-use Rattle.split.proofs.LimitLaws.{quarter-at-most, cap-quarter}
+use Rattle.split.specs.Refusal.{ageOf, listedF1, noIncrease, listedIncrease, unlisted, conditions, undatedHead, undated, disordered, badAge, unknownKind, wrongAge, noFactor, unstated, totalStated, conditionsWith}
+use Rattle.split.specs.Benefits.{workedPension, EarlyPaid, factorOf, limitedLump, benefitOf, benefitsOf, workedTerms}
+use Rattle.split.specs.Limits.{totalPension, totalCap, PositiveTops}
+use Rattle.split.proofs.BenefitsLaws.{cap-quarter, quarter-at-most}
 
 -- what the conditions denied of a pension
 pub record AcceptedPension (h : Head) (p : Pension) : Type 0 where
@@ -43,9 +44,9 @@ pub record Accepted (h : Head) (ps : List Pension) : Type 0 where
   pub sum : totalStated ps ≤ 50000000
 
 -- an accepted case has all that they denied
-pub accepted : (h : Head) (ps : List Pension) → lowest 3 (conditions h ps) ≡ 0 → Accepted h ps
-unfolding conditions
-accepted h ps e =
+pub case-accepted : (h : Head) (ps : List Pension) → lowest 3 (conditions h ps) ≡ 0 → Accepted h ps
+unfolding conditionsWith
+case-accepted h ps e =
     let none = none-holds 2 (conditions h ps) e in
     record {
       head-dated = or-left (undatedHead h) (any undated ps) (none 0);
@@ -112,6 +113,34 @@ factor-range h p a = go (p .kind) refl
     go (suc (suc (suc zero))) e = active-range terms
     go (suc (suc (suc (suc kind)))) e = absurd (omega (arith, known-kind p (a .known)))
 
+-- PI is at most 10,000 of any kind that is listed
+last-holds : (a b c : Bool) → not (a && (b && c)) ≡ false → c ≡ true
+last-holds a b c e = and-right b c (and-right a (b && c) (not-false (a && (b && c)) e))
+
+none-small : (t : FactorTerms) → noIncrease t ≡ true → t .increase ≤ 10000
+unfolding noIncrease
+none-small t e =
+    omega (arith, eqb-true (t .increase) 0 (and-right (eqb (t .f3) 0) _ (and-right (eqb (t .f2) 0) _ e)))
+
+listed-small : (t : FactorTerms) → listedIncrease t ≡ true → t .increase ≤ 10000
+unfolding listedIncrease
+listed-small t e =
+    within-bounds 1 10000 (t .increase)
+    (and-right (within 1 1000 (t .f3)) (within 1 10000 (t .increase)) (and-right (within 500 4000 (t .f2)) _ e)) .1
+
+pub increase-small : (p : Pension) → unlisted p ≡ false → p .terms .increase ≤ 10000
+unfolding unlisted
+increase-small p listed = go (eqb (p .kind) 1) (eqb (p .kind) 2) listed
+  where
+    go : (direct deferred : Bool)
+        → cond direct (not (leb (p .lift) 1 && (listedF1 (p .terms) && noIncrease (p .terms))))
+        (cond deferred (not (leb (p .lift) 1 && (listedF1 (p .terms) && listedIncrease (p .terms))))
+        (not (eqb (p .lift) 0 && (eqb (p .terms .f1) 0 && noIncrease (p .terms))))) ≡ false
+        → p .terms .increase ≤ 10000
+    go true deferred e = none-small (p .terms) (last-holds (leb (p .lift) 1) (listedF1 (p .terms)) _ e)
+    go false true e = listed-small (p .terms) (last-holds (leb (p .lift) 1) (listedF1 (p .terms)) _ e)
+    go false false e = none-small (p .terms) (last-holds (eqb (p .lift) 0) (eqb (p .terms .f1) 0) _ e)
+
 -- a pension is at most what is stated
 pub worked-at-most : (h : Head) (p : Pension) → workedPension h p ≤ p .stated .0
 unfolding workedPension
@@ -124,11 +153,26 @@ worked-at-most h p = go (eqb (p .kind) 3 && ltb (ageOf h) 720)
     go true = reduced-at-most (p .stated .0) left
     go false = omega arith
 
--- a stated pension is at most their total
-pub stated-at-most : (ps : List Pension) (j : ℕ) → j < length ps → (getD ps j noPension) .stated .0 ≤ totalStated ps
-stated-at-most [] j h = omega arith
-stated-at-most (p ∷ ps) zero h = omega arith
-stated-at-most (p ∷ ps) (suc j) h = omega (arith, stated-at-most ps j (omega arith))
+-- kind 3 is at 660 months or more, so below 720 months Table A is looked up within its 61 entries
+active-aged : (h : Head) (p : Pension) → AcceptedPension h p → p .kind ≡ 3 → 660 ≤ ageOf h
+unfolding wrongAge
+active-aged h p a kind = ltb-false (ageOf h) 660 (simp kind at (a .aged))
+
+pub early-paid : (h : Head) (ps : List Pension) → Accepted h ps → (j : ℕ) → j < length ps → getD ps j noPension .kind ≡ 3
+    → ageOf h < 720 → EarlyPaid h (getD ps j noPension) (months (h .commencement) (sixtiethBirthday (h .birth)))
+unfolding ageOf undatedHead workedPension reducedPension earlyPaymentFactor tableA
+early-paid h ps a j place kind young =
+    let birth = or-left (not (inCalendar (h .birth))) _ (a .head-dated) in
+    let last = months-to-sixtieth (h .birth) (h .commencement) (active-aged h (getD ps j noPension) (a .each j place) kind) young in
+    record {
+      ahead =
+          sixtieth-ahead (h .birth) (h .commencement) (not-false _ birth)
+          (not-false _ (or-right (not (inCalendar (h .birth))) _ (a .head-dated))) young;
+      last = last;
+      held = omega arith;
+      entry = early-payment-range _ last;
+      worked = simp (kind, lt-ltb (ageOf h) 720 young);
+    }
 
 -- the pensions after the first are accepted too
 pub accepted-rest : {h : Head} {p : Pension} {ps : List Pension} → Accepted h (p ∷ ps) → Accepted h ps

@@ -1,0 +1,95 @@
+-- Laws of reading a case line: what the code makes of its characters, its length and its fields is the case of the line; a
+-- case that is not refused is that of a line of one to four pensions; and the refusal of any line is that of the line or of
+-- its case. Assumes nothing.
+use Prim.Native.Nat.{ℕ, _≤_}
+use mathlib.Core.Bool.{Bool, true, false, cond}
+use mathlib.Core.List.{List, [], _∷_}
+use mathlib.Core.Path.{_≡_, refl, _∙_}
+use lib.Dec.{eqb}
+use lib.ListN.{length, take}
+use lib.Seq.{take-at}
+use borrow.Author.Tests.{eqb-true, eqb-false, ne-eqb, not-false}
+use Rattle.calendar.specs.Tests.{within, lowest}
+use Rattle.calendar.proofs.TestLaws.{and-left, within-bounds, lowest-none}
+use Rattle.split.specs.declared.case.Head.{Head}
+use Rattle.split.specs.declared.case.Pension.{Pension}
+use Rattle.split.specs.declared.case.Case.{Case}
+use Rattle.split.specs.Frame.{badCharacter}
+use Rattle.split.specs.Case.{headOf, pensionsAt, placesAt, pensionsOf}
+use Rattle.split.specs.Refusal.{badLength, lineRefusal, conditions, refusalOf}
+use Rattle.split.specs.Reading.{wholeCase, refusedCase, caseOf}
+use Rattle.split.proofs.CaseLaws.{pensions-counted}
+
+-- a choice by whether a refusal is 0
+pub by-zero : {A : Type 0} (P : A → Type 0) (r : ℕ) (x y : A) → (r ≡ 0 → P x) → ((r ≡ 0 → ⊥) → P y) → P (cond (eqb r 0) x y)
+by-zero P r x y none some = go (eqb r 0) refl
+  where
+    go : (b : Bool) → eqb r 0 ≡ b → P (cond b x y)
+    go true e = none (eqb-true r 0 e)
+    go false e = some (eqb-false r 0 e)
+
+-- a right length is that of at most four pensions
+pub count-listed : (characters n : ℕ) → badLength characters n ≡ false → n ≤ 4
+unfolding badLength
+count-listed characters n e = within-bounds 1 4 n (and-left (within 1 4 n) _ (not-false _ e)) .1
+
+-- the refusal of a line is that of its characters or its length, and else that of its case
+line-then-case : (s : List ℕ)
+    → refusalOf s ≡ cond (eqb (lineRefusal s) 0) (lowest 3 (conditions (headOf s) (pensionsOf s))) (lineRefusal s)
+unfolding refusalOf lineRefusal
+line-then-case s = go (badCharacter s) (badLength (length s) (headOf s .count)) (conditions (headOf s) (pensionsOf s))
+  where
+    go : (a b : Bool) (cs : List Bool)
+        → lowest 1 (a ∷ b ∷ cs) ≡ cond (eqb (lowest 1 (a ∷ b ∷ [])) 0) (lowest 3 cs) (lowest 1 (a ∷ b ∷ []))
+    go true b cs = refl
+    go false true cs = refl
+    go false false cs = refl
+
+-- a line with a bad character is refused
+pub case-bad-character : (s : List ℕ) (c : Case) → badCharacter s ≡ true → c ≡ refusedCase 1 → c ≡ caseOf s
+unfolding caseOf lineRefusal
+case-bad-character s c bad made = made ∙ simp (caseOf, lineRefusal, bad)
+
+-- what the code has read of a line of digits
+module _ (s : List ℕ) (h : Head) (digits : badCharacter s ≡ false) (read : h ≡ headOf s) where
+  -- refused by its length
+  pub case-bad-length : (c : Case) → badLength (length s) (h .count) ≡ true → c ≡ refusedCase 2 → c ≡ caseOf s
+  unfolding caseOf lineRefusal
+  case-bad-length c bad made = made ∙ simp (caseOf, lineRefusal, digits, rw read at bad)
+
+  -- whole
+  pub case-whole : (ps : List Pension) → badLength (length s) (h .count) ≡ false → ps ≡ placesAt s (h .count)
+      → _≡_ {A = Case} (record { refusal = 0; head = h; pensions = ps }) (caseOf s)
+  unfolding caseOf lineRefusal wholeCase
+  case-whole ps measured placed = rw (placed, read) (simp (caseOf, lineRefusal, digits, rw read at measured))
+
+-- what a case says that is not refused
+pub record Read (s : List ℕ) (c : Case) : Type 0 where
+  pub judged : refusalOf s ≡ lowest 3 (conditions (headOf s) (pensionsOf s))
+  pub head : c .head ≡ headOf s
+  pub few : c .head .count ≤ 4
+  pub taken : take (c .head .count) (c .pensions) ≡ pensionsOf s
+
+whole-read : (s : List ℕ) → lineRefusal s ≡ 0 → Read s (wholeCase s)
+unfolding wholeCase lineRefusal
+whole-read s e =
+    let n = headOf s .count in
+    let right = lowest-none 0 (badCharacter s) (badLength (length s) n ∷ []) e .1 in
+    record {
+      judged = line-then-case s ∙ simp e;
+      head = refl;
+      few = count-listed (length s) n (lowest-none 1 (badLength (length s) n) [] right .0);
+      taken = take-at (pensionsAt s n) _ n (pensions-counted s n);
+    }
+
+module _ (s : List ℕ) (c : Case) (made : c ≡ caseOf s) where
+  pub case-read : c .refusal ≡ 0 → Read s c
+  unfolding caseOf refusedCase
+  case-read = rw made (by-zero (λ c. c .refusal ≡ 0 → Read s c) (lineRefusal s) (wholeCase s) (refusedCase (lineRefusal s))
+      (λ e z. whole-read s e) (λ n z. absurd (n z)))
+
+  -- and one that is: the line is refused so
+  pub case-unread : (c .refusal ≡ 0 → ⊥) → refusalOf s ≡ c .refusal
+  unfolding caseOf wholeCase refusedCase
+  case-unread = rw made (by-zero (λ c. (c .refusal ≡ 0 → ⊥) → refusalOf s ≡ c .refusal) (lineRefusal s) (wholeCase s)
+      (refusedCase (lineRefusal s)) (λ e some. absurd (some refl)) (λ n some. line-then-case s ∙ simp (ne-eqb (lineRefusal s) 0 n)))
