@@ -3,14 +3,14 @@
 -- the list. Assumes nothing.
 use Prim.Native.Nat.{ℕ, zero, suc, _+_, _≤_, _<_}
 use mathlib.Core.Path.{_≡_, refl, sym, _∙_, ap}
-use mathlib.Core.Bool.{Bool, true, false, _&&_, _||_, or-false, or-assoc, true≢false, false≢true}
+use mathlib.Core.Bool.{Bool, true, false, cond, _&&_, _||_, or-false, or-assoc, true≢false, false≢true}
 use mathlib.Core.List.{List, [], _∷_, _++_}
 use native.Mathlib.Numerals.{add-one}
 use native.Mathlib.Omega.{arith}
-use lib.Dec.{leb}
+use lib.Dec.{leb, eqb}
 use lib.ListN.{length, getD, drop, drop-of-length-le}
 use lib.Seq.{drop-cons}
-use borrow.Author.Tests.{leb-true}
+use borrow.Author.Tests.{leb-true, eqb-true, eqb-false}
 use Rattle.calendar.specs.Tests.{any, within, lowest}
 
 -- both parts of a test that holds
@@ -35,6 +35,14 @@ or-right false b e = e
 pub not-true-false : (b : Bool) → (b ≡ true → ⊥) → b ≡ false
 not-true-false true h = absurd (h refl)
 not-true-false false h = refl
+
+-- a choice by whether a number is 0
+pub by-zero : {A : Type 0} (P : A → Type 0) (r : ℕ) (x y : A) → (r ≡ 0 → P x) → ((r ≡ 0 → ⊥) → P y) → P (cond (eqb r 0) x y)
+by-zero P r x y none some = go (eqb r 0) refl
+  where
+    go : (b : Bool) → eqb r 0 ≡ b → P (cond b x y)
+    go true e = none (eqb-true r 0 e)
+    go false e = some (eqb-false r 0 e)
 
 -- two bounds that were tested together
 pub within-bounds : (low high x : ℕ) → within low high x ≡ true → (low ≤ x) × (x ≤ high)

@@ -2,18 +2,17 @@
 -- more line behind lines that check sound; and the numbers of lines that check sound, which rise from the first by one.
 -- By induction on the characters and on the lines. Assumes nothing.
 use Prim.Native.Nat.{ℕ, zero, suc, _+_, _-_, _*_, _%_, _≤_, _<_}
-use mathlib.Core.Bool.{Bool, true, false, cond, not}
+use mathlib.Core.Bool.{Bool, true, false, cond}
 use mathlib.Core.List.{List, [], _∷_, _++_}
-use mathlib.Core.Path.{_≡_, refl, sym, _∙_, ap}
+use mathlib.Core.Path.{_≡_, refl}
 use native.Mathlib.Decide.{decLt}
 use native.Mathlib.Nat.{mul-mod-left}
 use native.Mathlib.Omega.{arith}
 use lib.Dec.{ltb, eqb}
 use lib.ListN.{length, getD}
-use borrow.Author.Tests.{lt-ltb, le-ltb, ltb-true, ltb-false, eqb-true, eqb-false, eq-eqb, ne-eqb, not-false}
+use borrow.Author.Tests.{lt-ltb, le-ltb, ltb-true, ltb-false, eqb-true, eq-eqb, ne-eqb, not-false}
 use Rattle.calendar.proofs.TestLaws.{or-left, or-right}
 use Rattle.split.proofs.FrameLaws.{number-below}
-use Rattle.register.specs.declared.answers.Checked.{Checked}
 use Rattle.register.specs.Line.{figureWidth, textLength, lineFor, numberIn}
 use Rattle.register.specs.Layout.{Layout, Register, lengthOf, usedLinesBy, usedBy, lineLayout, lineLength}
 use Rattle.register.specs.Check.{following, numberAfter, wrongNumber, unsound, badAt, firstBad, lineFault, checkLinesBy, badUsedBy, checkBy}

@@ -1,8 +1,8 @@
 -- The check by loops, for any layout: a line is a part of the register and is read there; the lines from an offset on answer for
 -- all; and a turn stops at a wrong number or a bad character, or goes on behind a line without a fault. Assumes nothing.
 use Prim.Native.Nat.{ℕ, zero, suc, _+_, _-_, _*_, _/_, _%_, _≤_, _<_}
-use mathlib.Core.Bool.{Bool, true, false, cond, not, _&&_, _||_}
-use mathlib.Core.List.{List, [], _∷_}
+use mathlib.Core.Bool.{Bool, true, false, cond, not, _&&_}
+use mathlib.Core.List.{List, []}
 use mathlib.Core.Path.{_≡_, refl, sym, _∙_, ap}
 use native.Mathlib.Decide.{decLt}
 use native.Mathlib.Nat.{add-zero, suc-mul, zero-mul, div-add-mod'}
@@ -11,7 +11,7 @@ use lib.Dec.{ltb, eqb}
 use lib.ListN.{length, getD, take, drop, length-take, length-drop}
 use lib.Seq.{getD-take, getD-drop, drop-drop}
 use borrow.Author.Count.{below-more}
-use borrow.Author.Tests.{lt-ltb, le-ltb, eqb-true, eq-eqb, not-true}
+use borrow.Author.Tests.{lt-ltb, le-ltb, eq-eqb, not-true}
 use Rattle.calendar.proofs.TestLaws.{and-left, and-right}
 use Rattle.split.specs.Frame.{noDigit, badCharacter, numberAt}
 use Rattle.split.proofs.FrameLaws.{digit-known}

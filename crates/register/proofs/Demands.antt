@@ -2,28 +2,24 @@
 -- filed line is found: in any register that took it, later filings only add lines behind it, and numbers rise, so no other
 -- has its number. Assumes nothing.
 use Prim.Native.Nat.{ℕ, _+_, _<_}
-use mathlib.Core.Bool.{true, not}
 use mathlib.Core.List.{List, [], _∷_, _++_, append-assoc, append-nil}
 use mathlib.Core.Path.{_≡_, refl, sym, _∙_, ap, subst}
 use native.Mathlib.Omega.{arith}
-use lib.Dec.{eqb}
 use lib.ListN.{length, getD, length-append, List·getD-append}
 use lib.Seq.{getD-at}
-use borrow.Author.Tests.{eqb-true, eq-eqb, ne-eqb, not-false}
-use Rattle.split.specs.Refusal.{refusalOf}
+use borrow.Author.Tests.{eq-eqb, ne-eqb}
 use Rattle.register.specs.declared.answers.Checked.{Checked}
 use Rattle.register.specs.declared.answers.Filed.{Filed}
 use Rattle.register.specs.Line.{figuresFor, figuresIn, lineFor, numberIn}
-use Rattle.register.specs.Layout.{Register, lent, lineLayout, lineLength, usedLines}
-use Rattle.register.specs.Check.{nextNumber, checkOf}
+use Rattle.register.specs.Layout.{Register, lent, lineLayout, usedLines}
 use Rattle.register.specs.Steps.{Step, runs}
 use Rattle.register.specs.Find.{findRefusal, findLine, hasNumber}
 use Rattle.register.specs.File.{Filing, numberGiven, fileRefusal, fileStep, fileRun}
-use Rattle.register.specs.Ledger.{Ledger, emptyLedger, entered, ledgerAfter, ledgerStep, ledgerRun, ListClaim}
+use Rattle.register.specs.Ledger.{Ledger, emptyLedger, ledgerAfter, ledgerStep, ledgerRun, ListClaim}
 use Rattle.register.proofs.LineLaws.{number-back, figures-back}
 use Rattle.register.proofs.CheckLaws.{number-inside, sound-number}
 use Rattle.register.proofs.FindLaws.{found-at}
-use Rattle.register.proofs.FileLaws.{Granted, refusal-none, given-low, given-next}
+use Rattle.register.proofs.FileLaws.{given-low}
 use Rattle.register.proofs.StepLaws.{runs-keep}
 use Rattle.register.proofs.LedgerLaws.{entered-by, entered-only, ledger-granted, Held, held-empty, held-after, Booked, booked-empty, booked-after}
 use Rattle.register.proofs.Shown.{shown, shown-lines, file-sound, shown-check, shown-refusal, shown-step, shown-run, ownLedger, own-shown, own-held}

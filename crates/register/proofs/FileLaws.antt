@@ -6,18 +6,18 @@ use mathlib.Core.List.{List, [], _∷_, _++_, append-assoc}
 use mathlib.Core.Path.{_≡_, refl, sym, _∙_, ap}
 use native.Mathlib.Nat.{add-zero}
 use native.Mathlib.Omega.{arith}
-use lib.Dec.{leb, ltb, eqb}
+use lib.Dec.{eqb}
 use lib.ListN.{length, take, drop, length-append, length-drop, take-append-drop}
 use lib.Seq.{take-append-seam, drop-append-add, drop-drop}
 use borrow.Author.Tests.{eqb-true, eqb-false, ltb-false, leb-false, eq-eqb, ne-eqb}
 use Rattle.calendar.specs.Tests.{lowest}
-use Rattle.calendar.proofs.TestLaws.{none-holds}
+use Rattle.calendar.proofs.TestLaws.{by-zero, none-holds}
 use Rattle.split.specs.Refusal.{refusalOf}
 use Rattle.register.specs.declared.answers.Filed.{Filed}
 use Rattle.register.specs.Line.{lineFor}
 use Rattle.register.specs.Layout.{Register, lent, lineLength, usedLines}
-use Rattle.register.specs.Check.{following, numberAfter, nextNumber, wrongNumber}
-use Rattle.register.specs.File.{Filing, firstNumber, numberGiven, noSpace, lastTaken, refusalGiven, fileRefusal, filedAnswer, textFiled, over, grown}
+use Rattle.register.specs.Check.{following, nextNumber, wrongNumber}
+use Rattle.register.specs.File.{Filing, firstNumber, numberGiven, noSpace, lastTaken, refusalGiven, fileRefusal, filedAnswer, textFiled, grown}
 use Rattle.register.proofs.LineLaws.{number-back}
 use Rattle.register.proofs.CheckLaws.{after-more, any-right, next-right}
 
@@ -58,11 +58,8 @@ unfolding filedAnswer
 answer-refused x used some = simp (ne-eqb x 0 some)
 
 pub answer-refusal : (x used : ℕ) → filedAnswer x used .refusal ≡ x
-answer-refusal x used = go (eqb x 0) refl
-  where
-    go : (b : Bool) → eqb x 0 ≡ b → filedAnswer x used .refusal ≡ x
-    go true e = ap (λ (a : Filed). a .refusal) (answer-granted x used (eqb-true x 0 e)) ∙ sym (eqb-true x 0 e)
-    go false e = ap (λ (a : Filed). a .refusal) (answer-refused x used (eqb-false x 0 e))
+unfolding filedAnswer
+answer-refusal x used = by-zero (λ (a : Filed). a .refusal ≡ x) x _ _ (λ e. sym e) (λ e. refl)
 
 -- what is filed, by the refusal
 pub text-granted : (r : Register) (f : Filing) → fileRefusal r f ≡ 0 → textFiled r f ≡ lineFor (numberGiven (usedLines r)) (f .line)
@@ -75,21 +72,15 @@ text-refused r f some = simp (ne-eqb (fileRefusal r f) 0 some)
 
 -- a number below a bound, or the first in its place
 pub number-fits : (n bound : ℕ) → firstNumber < bound → n < bound → cond (eqb n 0) firstNumber n < bound
-number-fits n bound first h = go (eqb n 0)
-  where
-    go : (b : Bool) → cond b firstNumber n < bound
-    go true = first
-    go false = h
+number-fits n bound first h = by-zero (λ x. x < bound) n firstNumber n (λ e. first) (λ e. h)
 
 -- the number given: right behind its lines, below 33 bits where the next is, and the next is one more behind its line
 module _ (ls : List (List ℕ)) where
   pub given-right : wrongNumber (nextNumber ls) (numberGiven ls) ≡ false
   unfolding numberGiven
-  given-right = go (eqb (nextNumber ls) 0) refl
-    where
-      go : (b : Bool) → eqb (nextNumber ls) 0 ≡ b → wrongNumber (nextNumber ls) (cond b firstNumber (nextNumber ls)) ≡ false
-      go true e = rw (eqb-true (nextNumber ls) 0 e) (any-right firstNumber (omega arith))
-      go false e = next-right (nextNumber ls) (omega (arith, eqb-false (nextNumber ls) 0 e))
+  given-right =
+      by-zero (λ x. wrongNumber (nextNumber ls) x ≡ false) (nextNumber ls) firstNumber (nextNumber ls)
+      (λ e. rw e (any-right firstNumber (omega arith))) (λ some. next-right (nextNumber ls) (omega (arith, some)))
 
   pub given-low : nextNumber ls < 4294967296 → numberGiven ls < 4294967296
   unfolding numberGiven

@@ -1,14 +1,14 @@
 -- Filing by code: a filing's answer and bytes by its refusals, and the lines of a text filed one after the other: what the lines
 -- passed have left is the register that the fold leaves, and what is known of it stays known. Assumes nothing.
 use Prim.Native.Nat.{ℕ, suc, _+_, _-_, _≤_, _<_}
-use mathlib.Core.Bool.{Bool, true, false, cond, not}
+use mathlib.Core.Bool.{false, cond}
 use mathlib.Core.List.{List, [], _∷_, _++_, map, map-append, append-nil, append-assoc}
 use mathlib.Core.Path.{_≡_, refl, sym, _∙_, ap}
 use native.Mathlib.Omega.{arith}
 use lib.Dec.{eqb, leb, ltb}
 use lib.ListN.{length, take, drop, length-append}
 use lib.Seq.{drop-drop}
-use borrow.Author.Tests.{eq-eqb, ne-eqb, lt-ltb, le-ltb, le-leb, lt-leb}
+use borrow.Author.Tests.{ne-eqb, lt-ltb, le-ltb, le-leb, lt-leb}
 use Rattle.split.specs.declared.answers.Quote.{Quote}
 use Rattle.split.specs.Refusal.{refusalOf}
 use Rattle.split.specs.Quote.{quoteOf}
@@ -18,8 +18,8 @@ use Rattle.register.specs.declared.answers.FiledLines.{FiledLines}
 use Rattle.register.specs.declared.checking.Scanned.{Scanned}
 use Rattle.register.specs.Line.{shareCount, figuresOf, figuresFor, lineText, lineFor}
 use Rattle.register.specs.Layout.{Register, lent, lineLength, usedLines}
-use Rattle.register.specs.Check.{following, nextNumber, checkOf}
-use Rattle.register.specs.Steps.{Step, runs}
+use Rattle.register.specs.Check.{following, checkOf}
+use Rattle.register.specs.Steps.{runs}
 use Rattle.register.specs.File.{Filing, filing, firstNumber, numberGiven, refusalGiven, fileRefusal, filedAnswer, textFiled, over, grown, fileStep, fileRun}
 use Rattle.register.specs.Text.{textLines, textFilings, refusalBytes, FiledText, FiledAll}
 use Rattle.register.specs.Scan.{ScannedAs, Known, LineEnd}
@@ -28,7 +28,7 @@ use Rattle.register.proofs.StepLaws.{runs-answer, runs-state, runs-coun
 use Rattle.register.proofs.CheckLaws.{after-low}
 use Rattle.register.proofs.FileLaws.{answer-granted, answer-refused, answer-refusal, text-granted, text-refused, grown-none}
 use Rattle.register.proofs.TextLaws.{line-cut, lines-none, refusals-size}
-use Rattle.register.proofs.Shown.{file-sound, StaysSound, step-sound}
+use Rattle.register.proofs.Shown.{file-sound, step-sound}
 use Rattle.register.proofs.Demands.{list-claim}
 
 -- a quote's refusal is its line's, and it has four shares

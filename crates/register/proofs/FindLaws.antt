@@ -8,11 +8,11 @@ use native.Mathlib.Nat.{suc-mul, div-add-mod', mul-le-mul-right}
 use native.Mathlib.Omega.{arith}
 use lib.Dec.{eqb}
 use lib.ListN.{length, getD, take, drop}
-use borrow.Author.Tests.{eqb-true, eqb-false, eq-eqb, ne-eqb}
+use borrow.Author.Tests.{eqb-true, eqb-false, ne-eqb}
 use Rattle.calendar.specs.Tests.{any}
 use Rattle.calendar.proofs.TestLaws.{or-left, or-right, any-snoc, none-any, some-any}
 use Rattle.register.specs.declared.answers.Located.{Located}
-use Rattle.register.specs.Layout.{Register, Layout, lengthOf, cutLines, usedLinesBy}
+use Rattle.register.specs.Layout.{Register, Layout, lengthOf, usedLinesBy}
 use Rattle.register.specs.Check.{checkBy}
 use Rattle.register.specs.Find.{lastWhere, lastPlace, findRefusalBy, findLineBy, locateBy}
 use Rattle.register.proofs.LayoutLaws.{cut-count, cut-at}

@@ -1,23 +1,23 @@
 -- The ledger: what may happen to a filing, and what every filing keeps: whole lines that the buffer holds, that check sound, and
 -- that are, each with its number, the granted filings' lines. Assumes nothing.
 use Prim.Native.Nat.{ℕ, _+_, _≤_, _<_}
-use mathlib.Core.Bool.{Bool, true, false, cond, not, _||_}
-use mathlib.Core.List.{List, [], _∷_, _++_}
+use mathlib.Core.Bool.{not, _||_}
+use mathlib.Core.List.{[], _∷_, _++_}
 use mathlib.Core.Path.{_≡_, refl, sym, _∙_, ap}
 use native.Mathlib.Decide.{decLt}
 use native.Mathlib.Omega.{arith}
 use lib.Dec.{eqb}
 use lib.ListN.{length, getD, length-append, List·getD-append}
 use lib.Seq.{getD-at}
-use borrow.Author.Tests.{eqb-true, eqb-false, not-false}
+use Rattle.calendar.proofs.TestLaws.{by-zero}
 use Rattle.split.specs.Refusal.{refusalOf}
 use Rattle.split.proofs.QuoteLaws.{quote-best}
 use Rattle.register.specs.Line.{lineFor}
-use Rattle.register.specs.Layout.{lineLayout, lineLength, bytesOf, usedBy}
+use Rattle.register.specs.Layout.{lineLayout, bytesOf, usedBy}
 use Rattle.register.specs.Check.{following, numberAfter, nextNumber, checkLinesBy, badUsed, checkLines}
 use Rattle.register.specs.File.{Filing, filing, firstNumber, numberGiven}
 use Rattle.register.specs.Ledger.{Ledger, emptyLedger, ledgerRefusal, entered, ledgerAfter, LineClaim}
-use Rattle.register.proofs.LineLaws.{line-length, number-back, figures-back, total-back, lumps-back}
+use Rattle.register.proofs.LineLaws.{line-length, figures-back, total-back, lumps-back}
 use Rattle.register.proofs.LayoutLaws.{Whole, bytes-more, whole-more}
 use Rattle.register.proofs.CheckLaws.{check-more, written-faultless}
 use Rattle.register.proofs.FileLaws.{Granted, refusal-none, given-right, given-low, given-next, given-known}
@@ -26,11 +26,7 @@ use Rattle.register.proofs.FileLaws.{Granted, refusal-none, given-right
 pub entered-by : (P : Ledger → Type 0) (buffer : ℕ) (b : Ledger) (f : Filing) → ((ledgerRefusal buffer b f ≡ 0 → ⊥) → P b)
     → (ledgerRefusal buffer b f ≡ 0 → P (entered b f)) → P (ledgerAfter buffer b f)
 unfolding ledgerAfter
-entered-by P buffer b f stay enter = go (eqb (ledgerRefusal buffer b f) 0) refl
-  where
-    go : (t : Bool) → eqb (ledgerRefusal buffer b f) 0 ≡ t → P (cond t (entered b f) b)
-    go true e = enter (eqb-true (ledgerRefusal buffer b f) 0 e)
-    go false e = stay (eqb-false (ledgerRefusal buffer b f) 0 e)
+entered-by P buffer b f stay enter = by-zero P (ledgerRefusal buffer b f) (entered b f) b enter stay
 
 pub entered-only : (P : Ledger → Type 0) (buffer : ℕ) (b : Ledger) (f : Filing) → ledgerRefusal buffer b f ≡ 0 → P (entered b f)
     → P (ledgerAfter buffer b f)

@@ -9,11 +9,11 @@ use lib.ListN.{length, getD, length-append, List·getD-append}
 use lib.Seq.{getD-at}
 use Rattle.split.specs.declared.answers.Share.{Share}
 use Rattle.split.specs.Frame.{noDigit, badCharacter, numberAt, hexText}
-use Rattle.split.specs.Quote.{quoteOf, SharesFit, QuoteFits, lumpsIn}
+use Rattle.split.specs.Quote.{quoteOf, SharesFit, lumpsIn}
 use Rattle.split.proofs.FrameLaws.{digit-known}
 use Rattle.split.proofs.HexLaws.{hex-length, hex-good, hex-back, good-append, good-none}
 use Rattle.split.proofs.QuoteLaws.{quote-fits}
-use Rattle.register.specs.Line.{figureWidth, headerLength, shareLength, shareCount, textLength, Figures, figuresOf, figuresFor, headerFigures, shareFigures, figuresText, sharesText, lineText, lineFor, numberIn, memberIn, totalIn, shareAt, sharesAt, sharesIn, figuresIn, lumpsInLine}
+use Rattle.register.specs.Line.{figureWidth, shareLength, shareCount, textLength, Figures, figuresOf, figuresFor, headerFigures, shareFigures, figuresText, sharesText, lineText, lineFor, numberIn, memberIn, totalIn, shareAt, sharesAt, sharesIn, figuresIn, lumpsInLine}
 
 -- figures one after the other: their text's length, that it is all digits, and that it is read back
 pub figures-length : (xs : List ℕ) → length (figuresText xs) ≡ length xs * figureWidth

@@ -1,12 +1,12 @@
 -- Writing a line by stores: a run of stores in two parts, a figure's digits from the last to the first, figures one after the
 -- other, and a line's shares. Each turn is said of what is left to write. Assumes nothing.
 use Prim.Native.Nat.{ℕ, suc, _+_, _*_, _/_, _%_, _≤_, _<_}
-use mathlib.Core.List.{List, [], _∷_, _++_, append-nil, append-assoc}
+use mathlib.Core.List.{List, [], _∷_, _++_, append-nil}
 use mathlib.Core.Path.{_≡_, refl, sym, _∙_, ap}
 use native.Mathlib.Nat.{add-zero}
 use native.Mathlib.Numerals.{add-one}
 use native.Mathlib.Omega.{arith}
-use lib.ListN.{length, getD, drop, set, length-append, drop-of-length-le}
+use lib.ListN.{length, getD, drop, set, drop-of-length-le}
 use lib.Seq.{drop-cons, set-comm, sets, sets-eq}
 use Rattle.split.specs.declared.answers.Share.{Share}
 use Rattle.split.specs.Frame.{hexCharacter, hexText}

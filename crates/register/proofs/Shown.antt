@@ -1,14 +1,13 @@
 -- A register that shows a ledger: its used part is the ledger's lines, on a ground that shows behind them. Filing in it answers
 -- what the ledger answers and leaves a register that shows the ledger after it, so a list of filings does too; and every
 -- register that checks sound shows a ledger of its own lines. Assumes nothing.
-use Prim.Native.Nat.{ℕ, _+_, _≤_}
-use mathlib.Core.Bool.{Bool, true, false, not, _||_}
-use mathlib.Core.List.{List, [], _∷_, _++_}
-use mathlib.Core.Path.{_≡_, refl, sym, _∙_, ap, subst}
+use Prim.Native.Nat.{ℕ, _+_}
+use mathlib.Core.List.{List, [], _++_}
+use mathlib.Core.Path.{_≡_, sym, _∙_, ap, subst}
 use native.Mathlib.Omega.{arith}
 use lib.Dec.{eqb}
 use lib.ListN.{length, drop}
-use borrow.Author.Tests.{eqb-true, eqb-false, not-false}
+use borrow.Author.Tests.{eqb-true, not-false}
 use Rattle.register.specs.declared.answers.Checked.{Checked}
 use Rattle.register.specs.declared.answers.Filed.{Filed}
 use Rattle.register.specs.Line.{lineFor}
@@ -16,7 +15,7 @@ use Rattle.register.specs.Layout.{Register, lineLayout, bytesOf, usedBy,
 use Rattle.register.specs.Check.{following, nextNumber, checkBy, checkLines, checkOf}
 use Rattle.register.specs.Steps.{Step, runs}
 use Rattle.register.specs.File.{Filing, numberGiven, fileRefusal, filedAnswer, textFiled, grown, fileStep, fileRun}
-use Rattle.register.specs.Ledger.{Ledger, entered, ledgerRefusal, ledgerAfter, ledgerStep}
+use Rattle.register.specs.Ledger.{Ledger, ledgerRefusal, ledgerAfter, ledgerStep}
 use Rattle.register.proofs.LayoutLaws.{bytes-more, UsedPart, used-part, used-cut}
 use Rattle.register.proofs.CheckLaws.{whole-used, check-sound}
 use Rattle.register.proofs.FileLaws.{refusal-none, given-low, given-next, text-granted, text-refused, grown-none, laidOn, grown-laid, laid-length}

@@ -8,9 +8,9 @@ use mathlib.Core.Path.{_≡_, refl, _∙_}
 use lib.Dec.{eqb}
 use lib.ListN.{length, take}
 use lib.Seq.{take-at}
-use borrow.Author.Tests.{eqb-true, eqb-false, ne-eqb, not-false}
+use borrow.Author.Tests.{ne-eqb, not-false}
 use Rattle.calendar.specs.Tests.{within, lowest}
-use Rattle.calendar.proofs.TestLaws.{and-left, within-bounds, lowest-none}
+use Rattle.calendar.proofs.TestLaws.{by-zero, and-left, within-bounds, lowest-none}
 use Rattle.split.specs.declared.case.Head.{Head}
 use Rattle.split.specs.declared.case.Pension.{Pension}
 use Rattle.split.specs.declared.case.Case.{Case}
@@ -19,14 +19,6 @@ use Rattle.split.specs.Case.{headOf, pensionsAt, placesAt, pensionsOf}
 use Rattle.split.specs.Refusal.{badLength, lineRefusal, conditions, refusalOf}
 use Rattle.split.specs.Reading.{wholeCase, refusedCase, caseOf}
 use Rattle.split.proofs.CaseLaws.{pensions-counted}
-
--- a choice by whether a refusal is 0
-pub by-zero : {A : Type 0} (P : A → Type 0) (r : ℕ) (x y : A) → (r ≡ 0 → P x) → ((r ≡ 0 → ⊥) → P y) → P (cond (eqb r 0) x y)
-by-zero P r x y none some = go (eqb r 0) refl
-  where
-    go : (b : Bool) → eqb r 0 ≡ b → P (cond b x y)
-    go true e = none (eqb-true r 0 e)
-    go false e = some (eqb-false r 0 e)
 
 -- a right length is that of at most four pensions
 pub count-listed : (characters n : ℕ) → badLength characters n ≡ false → n ≤ 4

@@ -7,7 +7,7 @@ use factors::effective::FactorTerms;
 use factors::money::YearlyPence;
 ghost use mathlib.Core.Path.{_≡_};
 ghost use Prim.Native.Nat.{_+_, _≤_};
-ghost use Rattle.split.specs.Case.{headAt, serviceAt, termsAt, pensionAt, placesAt, noPension, headLength, pensionLength, longestLine};
+ghost use Rattle.split.specs.Case.{headAt, serviceAt, termsAt, pensionAt, placesAt, noPension, headLength, pensionLength, caseLength, longestLine};
 ghost use Rattle.split.specs.Digits.{Values, FieldOf, Taken};
 ghost use Rattle.split.specs.Reading.{refusedCase, caseOf};
 
@@ -58,17 +58,19 @@ struct PensionField {
     pub next: Cursor,
 }
 
+struct PensionsField {
+    pub value: [Pension; 4],
+    pub next: Cursor,
+}
+
 fn read_head(digits: &[u8], at: Cursor) -> HeadField
     requires { ⌜ (at .at + headLength ≤ longestLine) × Values (now digits) ⌝ }
     ensures { λ r. ⌜ Taken (now (digits .entry)) (at .at) headAt headLength (r .value) (r .next .at) ⌝ }
 {
     let member = at.number(digits);
-    let after_member = member.next;
-    let birth = after_member.date(digits);
-    let after_birth = birth.next;
-    let commencement = after_birth.date(digits);
-    let after_commencement = commencement.next;
-    let count = after_commencement.byte(digits);
+    let birth = member.next.date(digits);
+    let commencement = birth.next.date(digits);
+    let count = commencement.next.byte(digits);
     let next = count.next;
     let born = birth.value;
     let commences = commencement.value;
@@ -88,8 +90,7 @@ fn read_service(digits: &[u8], at: Cursor) -> ServiceField
     ensures { λ r. ⌜ Taken (now (digits .entry)) (at .at) serviceAt 16 (r .value) (r .next .at) ⌝ }
 {
     let start = at.date(digits);
-    let after_start = start.next;
-    let end = after_start.date(digits);
+    let end = start.next.date(digits);
     let next = end.next;
     let first = start.value;
     let last = end.value;
@@ -107,12 +108,9 @@ fn read_terms(digits: &[u8], at: Cursor) -> TermsField
     ensures { λ r. ⌜ Taken (now (digits .entry)) (at .at) termsAt 16 (r .value) (r .next .at) ⌝ }
 {
     let f1 = at.short(digits);
-    let after_f1 = f1.next;
-    let f2 = after_f1.short(digits);
-    let after_f2 = f2.next;
-    let f3 = after_f2.short(digits);
-    let after_f3 = f3.next;
-    let increase = after_f3.short(digits);
+    let f2 = f1.next.short(digits);
+    let f3 = f2.next.short(digits);
+    let increase = f3.next.short(digits);
     let next = increase.next;
     TermsField {
         value: FactorTerms {
@@ -130,14 +128,10 @@ fn read_pension(digits: &[u8], at: Cursor) -> PensionField
     ensures { λ r. ⌜ Taken (now (digits .entry)) (at .at) pensionAt pensionLength (r .value) (r .next .at) ⌝ }
 {
     let kind = at.byte(digits);
-    let after_kind = kind.next;
-    let stated = after_kind.number(digits);
-    let after_stated = stated.next;
-    let service = read_service(digits, after_stated);
-    let after_service = service.next;
-    let lift = after_service.byte(digits);
-    let after_lift = lift.next;
-    let terms = read_terms(digits, after_lift);
+    let stated = kind.next.number(digits);
+    let service = read_service(digits, stated.next);
+    let lift = service.next.byte(digits);
+    let terms = read_terms(digits, lift.next);
     let next = terms.next;
     let served = service.value;
     let given = terms.value;
@@ -179,9 +173,9 @@ fn no_pension() -> Pension
 }
 
 // The n pensions of a line, from the end of its head on, in the first places of the array.
-fn read_pensions(digits: &[u8], at: Cursor, n: usize) -> [Pension; 4]
+fn read_pensions(digits: &[u8], at: Cursor, n: usize) -> PensionsField
     requires { ⌜ (at .at ≡ headLength) × (n ≤ 4) × Values (now digits) ⌝ }
-    ensures { λ r. ⌜ FieldOf (now (digits .entry)) r (λ s. placesAt s n) ⌝ }
+    ensures { λ r. ⌜ FieldOf (now (digits .entry)) (r .value) (λ s. placesAt s n) × (r .next .at ≡ caseLength n) ⌝ }
 {
     let mut pensions = [no_pension(); 4];
     let mut next = at;
@@ -193,7 +187,10 @@ fn read_pensions(digits: &[u8], at: Cursor, n: usize) -> [Pension; 4]
         next = read.next;
         i += 1;
     }
-    pensions
+    PensionsField {
+        value: pensions,
+        next,
+    }
 }
 
 fn refused_case(refusal: u8) -> Case
@@ -229,7 +226,8 @@ pub fn read_case(line: &[u8]) -> Case
     if refusal::has_bad_length(line.len(), head.count) {
         return refused_case(2);
     }
-    let pensions = read_pensions(&digits, read.next, head.count as usize);
+    let taken = read_pensions(&digits, read.next, head.count as usize);
+    let pensions = taken.value;
     Case {
         refusal: 0,
         head,

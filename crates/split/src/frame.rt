@@ -157,8 +157,7 @@ impl Cursor {
         ensures { λ r. ⌜ Taken (now (digits .entry)) (self .at) (numberOf 8) 8 (r .value) (r .next .at) ⌝ }
     {
         let high = self.short(digits);
-        let after_high = high.next;
-        let low = after_high.short(digits);
+        let low = high.next.short(digits);
         let next = low.next;
         NumberField {
             value: high.value as u32 * 65536 + low.value as u32,
@@ -172,10 +171,8 @@ impl Cursor {
         ensures { λ r. ⌜ Taken (now (digits .entry)) (self .at) dateAt 8 (r .value) (r .next .at) ⌝ }
     {
         let year = self.short(digits);
-        let after_year = year.next;
-        let month = after_year.byte(digits);
-        let after_month = month.next;
-        let day = after_month.byte(digits);
+        let month = year.next.byte(digits);
+        let day = month.next.byte(digits);
         let next = day.next;
         DateField {
             value: Date {

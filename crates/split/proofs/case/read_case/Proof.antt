@@ -45,10 +45,11 @@ read-pensions-requires c κs =
 
 returns-3 : tie.Need-returns-3
 returns-3 c =
-    let e = c .before .before .before in
+    let t = c .before in
+    let e = t .before .before .before in
     let r = e .before .before .before in
-    case-whole _ _ (digits (r .before .before .before)) (headed r) (c .read-pensions .result) (measured e)
-    (c .read-pensions .ensures _ (r .before .before .decode .ensures))
+    case-whole _ _ (digits (r .before .before .before)) (headed r) (t .read-pensions .result .value) (measured e)
+    (t .read-pensions .ensures .0 _ (r .before .before .decode .ensures))
 
 pub read-case-spec : {M : Type 1} → statement M
 read-case-spec =

@@ -9,9 +9,9 @@ returns : tie.Need-returns
 unfolding headAt
 returns c =
     let count = c .before .before .before in
-    let commencement = count .before .before in
-    let birth = commencement .before .before in
-    let member = birth .before .before in
+    let commencement = count .before in
+    let birth = commencement .before in
+    let member = birth .before in
     made-of (λ m b d n. record { member = m; birth = b; commencement = d; count = n }) (member .number .ensures)
     then birth .date .ensures then commencement .date2 .ensures then count .byte .ensures
 

@@ -9,10 +9,10 @@ returns : tie.Need-returns
 unfolding pensionAt
 returns c =
     let terms = c .before .before .before in
-    let lift = terms .before .before in
-    let service = lift .before .before in
-    let stated = service .before .before in
-    let kind = stated .before .before in
+    let lift = terms .before in
+    let service = lift .before in
+    let stated = service .before in
+    let kind = stated .before in
     made-of (λ k p s l t. record { kind = k; stated = record { 0 = p }; service = s; lift = l; terms = t })
     (kind .byte .ensures)
     then stated .number .ensures then service .read-service .ensures then lift .byte2 .ensures then terms .read-terms .ensures

@@ -41,9 +41,11 @@ loop-again c =
 returns : tie.Need-returns Inv-loop μ-loop
 returns c =
     let l = c .before .loop in
-    λ s digits.
-    at-end (λ (k : ℕ). l .pensions) (λ (k : ℕ). placesAt s k) (l .i) (c .before .before .before .before .args .n) (l .inv .0)
-    (c .loop-test .left) (l .inv .2 s digits)
+    let n = c .before .before .before .before .args .n in (
+      λ s digits.
+          at-end (λ (k : ℕ). l .pensions) (λ (k : ℕ). placesAt s k) (l .i) n (l .inv .0) (c .loop-test .left) (l .inv .2 s digits),
+      at-end (λ (k : ℕ). l .next .at) caseLength (l .i) n (l .inv .0) (c .loop-test .left) (l .inv .1),
+    )
 
 pub read-pensions-spec : {M : Type 1} → statement M
 read-pensions-spec =

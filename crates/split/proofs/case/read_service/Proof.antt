@@ -9,7 +9,7 @@ returns : tie.Need-returns
 unfolding serviceAt
 returns c =
     let end = c .before .before .before in
-    let start = end .before .before in
+    let start = end .before in
     made-of (λ s e. record { start = s; end = e }) (start .date .ensures) then end .date2 .ensures
 
 pub read-service-spec : {M : Type 1} → statement M

@@ -9,9 +9,9 @@ returns : tie.Need-returns
 unfolding termsAt
 returns c =
     let increase = c .before in
-    let f3 = increase .before .before in
-    let f2 = f3 .before .before in
-    let f1 = f2 .before .before in
+    let f3 = increase .before in
+    let f2 = f3 .before in
+    let f1 = f2 .before in
     made-of (λ a b d e. record { f1 = a; f2 = b; f3 = d; increase = e }) (f1 .short .ensures)
     then f2 .short2 .ensures then f3 .short3 .ensures then increase .short4 .ensures
 

@@ -10,8 +10,8 @@ returns : tie.Need-returns
 unfolding dateAt
 returns c =
     let day = c .before in
-    let month = day .before .before in
-    let year = month .before .before in
+    let month = day .before in
+    let year = month .before in
     made-of date (year .short .ensures) then month .byte .ensures then day .byte2 .ensures
 
 pub date-spec : {M : Type 1} → statement M

@@ -7,7 +7,7 @@ use Rattle.split.proofs.frame.Cursor.number.Tie as tie
 returns : tie.Need-returns
 returns c =
     let low = c .before .before .before in
-    number-joined (low .before .before .short .ensures) (low .short2 .ensures)
+    number-joined (low .before .short .ensures) (low .short2 .ensures)
 
 pub number-spec : {M : Type 1} → statement M
 number-spec =
