@@ -93,16 +93,16 @@ fn cheapest_row(rows: [Row; 4], n: usize) -> usize
 }
 
 // The most that a row's cap and what is left of the limit allow.
-fn most_of(row: Row, left: u64) -> u32
+fn most_of(row: Row, left: u64) -> LumpPence
     requires { ⌜ 0 < row .price ⌝ }
-    ensures { λ r. ⌜ r ≡ most row left ⌝ }
+    ensures { λ r. ⌜ r .0 ≡ most row left ⌝ }
 {
-    let cap = row.cap.0 as u64;
+    let cap = row.cap;
     let allowed = left / row.price;
-    if cap <= allowed {
-        return row.cap.0;
+    if cap.0 as u64 <= allowed {
+        return cap;
     }
-    allowed as u32
+    LumpPence(allowed as u32)
 }
 
 // The row at a place has its turn.
@@ -118,10 +118,10 @@ fn turn(rows: [Row; 4], place: usize, left: u64) -> Served
     after[place] = Row {
         price,
         cap,
-        lump: LumpPence(lump),
+        lump: LumpPence(lump.0),
         waiting: false,
     };
-    let spent = lump as u64 * price;
+    let spent = lump.0 as u64 * price;
     Served {
         rows: after,
         left: left - spent,

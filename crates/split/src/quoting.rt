@@ -93,9 +93,9 @@ fn shares_of(
 }
 
 // The lumps of the first n rows together.
-fn total_of(rows: [Row; 4], n: usize) -> u32
+fn total_of(rows: [Row; 4], n: usize) -> LumpPence
     requires { ⌜ (n ≤ 4) × (total (lumpsOf (take n rows)) ≤ 1000000000) ⌝ }
-    ensures { λ r. ⌜ r ≡ total (lumpsOf (take n rows)) ⌝ }
+    ensures { λ r. ⌜ r .0 ≡ total (lumpsOf (take n rows)) ⌝ }
 {
     let mut sum: u32 = 0;
     let mut i = 0;
@@ -105,7 +105,7 @@ fn total_of(rows: [Row; 4], n: usize) -> u32
         sum += lump.0;
         i += 1;
     }
-    sum
+    LumpPence(sum)
 }
 
 // The grant of an accepted case with n pensions.
@@ -115,12 +115,12 @@ pub fn granted_quote(head: Head, pensions: [Pension; 4], n: usize) -> Quote
 {
     let benefits = limits::benefits_of(head, pensions, n);
     let rows = grant::grant_of(benefits, n);
-    let sum = total_of(rows, n);
+    let total = total_of(rows, n);
     let shares = shares_of(head, pensions, benefits, rows, n);
     Quote {
         refusal: 0,
         member: head.member,
-        total: LumpPence(sum),
+        total,
         shares,
     }
 }

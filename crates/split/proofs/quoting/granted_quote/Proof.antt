@@ -4,6 +4,7 @@ use mathlib.Core.List.{List}
 use mathlib.Core.Path.{_≡_, _∙_, ap}
 use Prim.Native.Nat.{ℕ}
 use lib.ListN.{length}
+use Rattle.factors.specs.declared.money.LumpPence.{LumpPence}
 use Rattle.split.specs.declared.case.Head.{Head}
 use Rattle.split.specs.declared.case.Pension.{Pension}
 use Rattle.split.specs.declared.limits.Benefit.{Benefit}
@@ -18,9 +19,9 @@ use Rattle.split.proofs.quoting.granted_quote.Statement.{statement}
 use Rattle.split.proofs.quoting.granted_quote.Tie as tie
 
 -- the figures made one after the other are those of the grant
-composed : (h : Head) (ps : List Pension) (bs : List Benefit) (lumps : List ℕ) (sum : ℕ) (shares : List Share)
-    → bs ≡ benefitsOf h ps → lumps ≡ grant bs → sum ≡ total lumps → shares ≡ padded (sharesOf h ps lumps)
-    → _≡_ {A = Quote} (record { refusal = 0; member = h .member; total = record { 0 = sum }; shares = shares }) (grantedQuote h ps)
+composed : (h : Head) (ps : List Pension) (bs : List Benefit) (lumps : List ℕ) (sum : LumpPence) (shares : List Share)
+    → bs ≡ benefitsOf h ps → lumps ≡ grant bs → sum .0 ≡ total lumps → shares ≡ padded (sharesOf h ps lumps)
+    → _≡_ {A = Quote} (record { refusal = 0; member = h .member; total = sum; shares = shares }) (grantedQuote h ps)
 unfolding grantedQuote lumpsGranted
 composed h ps bs lumps sum shares worked granted summed shared =
     let all : lumps ≡ grant (benefitsOf h ps) = granted ∙ ap grant worked in
