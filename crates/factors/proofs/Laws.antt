@@ -2,12 +2,12 @@
 -- effective factor of terms within document 01's lists lies between 5 and 80. Assumes nothing.
 use mathlib.Core.Path.{_≡_, refl}
 use mathlib.Core.Bool.{Bool, true, false, _&&_}
-use Prim.Native.Nat.{ℕ, _-_, _≤_, _<_}
+use Prim.Native.Nat.{ℕ, _-_, _*_, _/_, _≤_, _<_}
 use native.Mathlib.Nat.{mul-le-mul-left, le-of-lt, div-le-of-le-mul}
 use native.Mathlib.Decide.{decLt}
 use native.Mathlib.Omega.{arith}
 use lib.Dec.{leb, eqb}
-use lib.ListN.{List·getD-eq-default}
+use lib.ListN.{length, getD, List·getD-eq-default}
 use borrow.Author.Tests.{le-leb, eqb-true, eqb-false}
 use Rattle.calendar.proofs.TestLaws.{within-bounds}
 use Rattle.factors.specs.declared.effective.FactorTerms.{FactorTerms}
@@ -45,7 +45,7 @@ commutation-range given age listed stated = go (eqb given 0) refl
     go false e = rw (as-given given age e) (stated (eqb-false given 0 e))
 
 -- Table A at the months it holds, and everywhere below one
-pub early-payment-range : (months : ℕ) → months ≤ 60 → (775 ≤ earlyPaymentFactor months) × (earlyPaymentFactor months ≤ 998)
+early-payment-range : (months : ℕ) → months ≤ 60 → (775 ≤ earlyPaymentFactor months) × (earlyPaymentFactor months ≤ 998)
 unfolding earlyPaymentFactor tableA
 early-payment-range months high =
     within-bounds 775 998 (earlyPaymentFactor months)
@@ -58,6 +58,13 @@ early-payment-below months =
       | yes h ↦ omega (arith, early-payment-range months (omega arith))
       | no h ↦ omega (arith, List·getD-eq-default tableA 0 {n = months} (omega arith))
     ]
+
+-- at months that it holds a reduction is by its entry, and meets no default
+pub reduced-by-entry : (stated months : ℕ) → months ≤ 60
+    → (months < length tableA) × ((775 ≤ getD tableA months 0) × (getD tableA months 0 ≤ 998))
+    × (reducedPension stated months ≡ stated * getD tableA months 0 / 1000)
+unfolding reducedPension earlyPaymentFactor tableA
+reduced-by-entry stated months high = (omega arith, early-payment-range months high, refl)
 
 pub reduced-at-most : (stated months : ℕ) → reducedPension stated months ≤ stated
 unfolding reducedPension

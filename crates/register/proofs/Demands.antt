@@ -20,7 +20,7 @@ use Rattle.register.proofs.LineLaws.{number-back, figures-back}
 use Rattle.register.proofs.CheckLaws.{number-inside, sound-number}
 use Rattle.register.proofs.FindLaws.{found-at}
 use Rattle.register.proofs.FileLaws.{given-low}
-use Rattle.register.proofs.StepLaws.{runs-keep}
+use Rattle.register.proofs.StepsLaws.{runs-keep}
 use Rattle.register.proofs.LedgerLaws.{entered-by, entered-only, ledger-granted, Held, held-empty, held-after, Booked, booked-empty, booked-after}
 use Rattle.register.proofs.Shown.{shown, shown-lines, file-sound, shown-check, shown-refusal, shown-step, shown-run, ownLedger, own-shown, own-held}
 

@@ -24,7 +24,7 @@ use Rattle.register.specs.File.{Filing, filing, firstNumber, numberGiven
 use Rattle.register.specs.Text.{textLines, textFilings, refusalBytes, FiledText, FiledAll}
 use Rattle.register.specs.Scan.{ScannedAs, Known, LineEnd}
 use Rattle.register.proofs.LineLaws.{line-length}
-use Rattle.register.proofs.StepLaws.{runs-answer, runs-state, runs-count}
+use Rattle.register.proofs.StepsLaws.{runs-answer, runs-state, runs-count}
 use Rattle.register.proofs.CheckLaws.{after-low}
 use Rattle.register.proofs.FileLaws.{answer-granted, answer-refused, answer-refusal, text-granted, text-refused, grown-none}
 use Rattle.register.proofs.TextLaws.{line-cut, lines-none, refusals-size}

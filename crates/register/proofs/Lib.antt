@@ -3,6 +3,7 @@
 pub mod CheckLaws
 pub mod CheckLoop
 pub mod Demands
+pub mod Figures
 pub mod FileLaws
 pub mod FileLoop
 pub mod FindLaws
@@ -12,6 +13,6 @@ pub mod LedgerLaws
 pub mod LineLaws
 pub mod LineLoop
 pub mod Shown
-pub mod StepLaws
+pub mod StepsLaws
 pub mod TextLaws
 pub mod TextLoop

@@ -20,7 +20,7 @@ use Rattle.register.proofs.LayoutLaws.{bytes-more, UsedPart, used-part,
 use Rattle.register.proofs.CheckLaws.{whole-used, check-sound}
 use Rattle.register.proofs.FileLaws.{refusal-none, given-low, given-next, text-granted, text-refused, grown-none, laidOn, grown-laid, laid-length}
 use Rattle.register.proofs.LedgerLaws.{entered-by, entered-only, ledger-granted, Held, held-after}
-use Rattle.register.proofs.StepLaws.{runs-square}
+use Rattle.register.proofs.StepsLaws.{runs-square}
 
 abbrev pub shown : List ℕ → Ledger → Register
 shown g b = laidOn g (bytesOf (b .lines))

@@ -1,4 +1,5 @@
 pub mod Check
+pub mod Figures
 pub mod File
 pub mod Find
 pub mod Layout

@@ -16,8 +16,8 @@ use Rattle.calendar.proofs.TestLaws.{and-right, within-bounds, and-left, or-lef
 use Rattle.factors.specs.declared.effective.FactorTerms.{FactorTerms}
 use Rattle.factors.specs.Effective.{FactorRange, effectiveFactor}
 use Rattle.factors.specs.Commutation.{commutationFactor}
-use Rattle.factors.specs.EarlyPayment.{tableA, earlyPaymentFactor, reducedPension}
-use Rattle.factors.proofs.Laws.{DeferredTerms, direct-range, deferred-range, active-range, commutation-range, early-payment-range, reduced-at-most}
+use Rattle.factors.specs.EarlyPayment.{reducedPension}
+use Rattle.factors.proofs.Laws.{DeferredTerms, direct-range, deferred-range, active-range, commutation-range, reduced-by-entry, reduced-at-most}
 use Rattle.split.specs.declared.case.Head.{Head}
 use Rattle.split.specs.declared.case.Pension.{Pension}
 use Rattle.split.specs.Case.{noPension}
@@ -160,18 +160,19 @@ active-aged h p a kind = ltb-false (ageOf h) 660 (simp kind at (a .aged))
 
 pub early-paid : (h : Head) (ps : List Pension) → Accepted h ps → (j : ℕ) → j < length ps → getD ps j noPension .kind ≡ 3
     → ageOf h < 720 → EarlyPaid h (getD ps j noPension) (months (h .commencement) (sixtiethBirthday (h .birth)))
-unfolding ageOf undatedHead workedPension reducedPension earlyPaymentFactor tableA
+unfolding ageOf undatedHead workedPension
 early-paid h ps a j place kind young =
     let birth = or-left (not (inCalendar (h .birth))) _ (a .head-dated) in
     let last = months-to-sixtieth (h .birth) (h .commencement) (active-aged h (getD ps j noPension) (a .each j place) kind) young in
+    let entry = reduced-by-entry (getD ps j noPension .stated .0) (months (h .commencement) (sixtiethBirthday (h .birth))) last in
     record {
       ahead =
           sixtieth-ahead (h .birth) (h .commencement) (not-false _ birth)
           (not-false _ (or-right (not (inCalendar (h .birth))) _ (a .head-dated))) young;
       last = last;
-      held = omega arith;
-      entry = early-payment-range _ last;
-      worked = simp (kind, lt-ltb (ageOf h) 720 young);
+      held = entry .0;
+      entry = entry .1;
+      worked = simp (kind, lt-ltb (ageOf h) 720 young) (entry .2);
     }
 
 -- the pensions after the first are accepted too
