@@ -1,3 +1,4 @@
-pub mod Laws
-pub mod SumLaws
-pub mod TestLaws
+-- Names: `XLaws` has laws of the definitions of specs/X.
+pub mod CalendarLaws
+pub mod SumsLaws
+pub mod TestsLaws

@@ -6,6 +6,6 @@ use Rattle.calendar.specs.Figure.{hold}
 use Rattle.factors.specs.Commutation.{table1, straightLine, yearValues}
 use Rattle.factors.specs.Figures.{figures}
 
-pub figures-hold : hold figures ≡ true
+pub table-figures-hold : hold figures ≡ true
 unfolding figures months monthIndex incomplete table1 straightLine yearValues
-figures-hold = refl
+table-figures-hold = refl

@@ -7,7 +7,7 @@ use mathlib.Core.List.{List, [], _∷_}
 use Prim.Native.Nat.{ℕ, zero, suc, _+_, _<_}
 use native.Mathlib.Nat.{zero-add, add-zero, add-suc, suc-add, le-of-suc-le-suc, eq-or-lt-of-le, not-suc-le-zero}
 use lib.ListN.{getD}
-use Rattle.calendar.proofs.TestLaws.{and-left, and-right}
+use Rattle.calendar.proofs.TestsLaws.{and-left, and-right}
 
 -- n values of f, from i on
 abbrev pub tabulate : (ℕ → ℕ) → ℕ → ℕ → List ℕ

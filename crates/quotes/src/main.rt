@@ -3,13 +3,15 @@
 use libc::STDIN_FILENO;
 use libc::STDOUT_FILENO;
 use register::LINE_LENGTH;
-ghost use Prim.Native.Nat.{_≤_};
+use split::LONGEST;
+ghost use Prim.Native.Nat.{_+_, _≤_};
 ghost use mathlib.Core.Path.{_≡_};
 ghost use lib.ListN.{length};
+ghost use Rattle.split.specs.Case.{longestLine};
 ghost use Rattle.quotes.specs.Bounds.{InBounds};
 
 // One character more than the longest case line has: a longer line is refused by its characters and its length alone.
-const KEPT: usize = 203;
+const KEPT: usize = LONGEST + 1;
 
 // Where a run stands: the register's used length, how many characters of a line without its end are kept at the input's
 // start, how many bytes of output wait to be written, whether a write failed, and whether the input has ended.
@@ -148,7 +150,7 @@ fn whole_lines(text: &[u8], before: usize) -> usize
 // bad character among the others takes the first place: so the line is refused with 1 as the whole line is, and else with 2.
 fn keep_rest(input: &mut [u8], from: usize, end: usize) -> usize
     requires { ⌜ (from ≤ end) × (end ≤ length (now input)) × (1 ≤ length (now input)) ⌝ }
-    ensures { λ r. ⌜ r ≤ 203 ⌝ }
+    ensures { λ r. ⌜ r ≤ longestLine + 1 ⌝ }
 {
     let mut kept = 0;
     while kept < end - from && kept < KEPT {

@@ -11,7 +11,7 @@ use native.Mathlib.Omega.{arith}
 use lib.Dec.{ltb, eqb}
 use lib.ListN.{length, getD}
 use borrow.Author.Tests.{lt-ltb, le-ltb, ltb-true, ltb-false, eqb-true, eq-eqb, ne-eqb, not-false}
-use Rattle.calendar.proofs.TestLaws.{or-left, or-right}
+use Rattle.calendar.proofs.TestsLaws.{or-left, or-right}
 use Rattle.split.proofs.FrameLaws.{number-below}
 use Rattle.register.specs.Line.{figureWidth, textLength, lineFor, numberIn}
 use Rattle.register.specs.Layout.{Layout, Register, lengthOf, usedLinesBy, usedBy, lineLayout, lineLength}

@@ -12,7 +12,7 @@ use lib.ListN.{length, getD, take, drop, length-take, length-drop}
 use lib.Seq.{getD-take, getD-drop, drop-drop}
 use borrow.Author.Count.{below-more}
 use borrow.Author.Tests.{lt-ltb, le-ltb, eq-eqb, not-true}
-use Rattle.calendar.proofs.TestLaws.{and-left, and-right}
+use Rattle.calendar.proofs.TestsLaws.{and-left, and-right}
 use Rattle.split.specs.Frame.{noDigit, badCharacter, numberAt}
 use Rattle.split.proofs.FrameLaws.{digit-known}
 use Rattle.split.proofs.HexLaws.{number-part}

@@ -11,7 +11,7 @@ use lib.ListN.{length, take, drop, length-append, length-drop, take-append-drop}
 use lib.Seq.{take-append-seam, drop-append-add, drop-drop}
 use borrow.Author.Tests.{eqb-true, eqb-false, ltb-false, leb-false, eq-eqb, ne-eqb}
 use Rattle.calendar.specs.Tests.{lowest}
-use Rattle.calendar.proofs.TestLaws.{by-zero, none-holds}
+use Rattle.calendar.proofs.TestsLaws.{by-zero, none-holds}
 use Rattle.split.specs.Refusal.{refusalOf}
 use Rattle.register.specs.declared.answers.Filed.{Filed}
 use Rattle.register.specs.Line.{lineFor}

@@ -10,7 +10,7 @@ use lib.Dec.{eqb}
 use lib.ListN.{length, getD, take, drop}
 use borrow.Author.Tests.{eqb-true, eqb-false, ne-eqb}
 use Rattle.calendar.specs.Tests.{any}
-use Rattle.calendar.proofs.TestLaws.{or-left, or-right, any-snoc, none-any, some-any}
+use Rattle.calendar.proofs.TestsLaws.{or-left, or-right, any-snoc, none-any, some-any}
 use Rattle.register.specs.declared.answers.Located.{Located}
 use Rattle.register.specs.Layout.{Register, Layout, lengthOf, usedLinesBy}
 use Rattle.register.specs.Check.{checkBy}

@@ -9,7 +9,7 @@ use lib.Dec.{eqb}
 use lib.ListN.{length, take, drop}
 use borrow.Author.Tests.{eq-eqb, ne-eqb}
 use Rattle.calendar.specs.Tests.{any}
-use Rattle.calendar.proofs.TestLaws.{any-snoc}
+use Rattle.calendar.proofs.TestsLaws.{any-snoc}
 use Rattle.split.specs.Frame.{numberAt}
 use Rattle.split.proofs.HexLaws.{number-part}
 use Rattle.register.specs.Line.{figureWidth}

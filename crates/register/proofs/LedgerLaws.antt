@@ -9,7 +9,7 @@ use native.Mathlib.Omega.{arith}
 use lib.Dec.{eqb}
 use lib.ListN.{length, getD, length-append, List·getD-append}
 use lib.Seq.{getD-at}
-use Rattle.calendar.proofs.TestLaws.{by-zero}
+use Rattle.calendar.proofs.TestsLaws.{by-zero}
 use Rattle.split.specs.Refusal.{refusalOf}
 use Rattle.split.proofs.QuoteLaws.{quote-best}
 use Rattle.register.specs.Line.{lineFor}

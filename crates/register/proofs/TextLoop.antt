@@ -10,7 +10,7 @@ use lib.Dec.{eqb}
 use lib.ListN.{length, getD, take, drop, length-take, length-drop}
 use lib.Seq.{getD-take, getD-drop}
 use borrow.Author.Tests.{ne-eqb}
-use Rattle.calendar.proofs.TestLaws.{any-none}
+use Rattle.calendar.proofs.TestsLaws.{any-none}
 use Rattle.register.specs.Scan.{hasNewline, LineEnd}
 
 -- no character from a place on is a newline before another

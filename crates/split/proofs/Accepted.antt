@@ -11,13 +11,15 @@ use lib.ListN.{length, getD}
 use borrow.Author.Tests.{lt-ltb, eqb-true, not-false, ltb-false, eq-eqb, ne-eqb}
 use Rattle.calendar.specs.Tests.{within, lowest, any}
 use Rattle.calendar.specs.Calendar.{inCalendar, months, sixtiethBirthday}
-use Rattle.calendar.proofs.Laws.{months-to-sixtieth, sixtieth-ahead}
-use Rattle.calendar.proofs.TestLaws.{and-right, within-bounds, and-left, or-left, or-right, any-none, none-holds}
+use Rattle.calendar.proofs.CalendarLaws.{months-to-sixtieth, sixtieth-ahead}
+use Rattle.calendar.proofs.TestsLaws.{and-right, within-bounds, and-left, or-left, or-right, any-none, none-holds}
 use Rattle.factors.specs.declared.effective.FactorTerms.{FactorTerms}
 use Rattle.factors.specs.Effective.{FactorRange, effectiveFactor}
 use Rattle.factors.specs.Commutation.{commutationFactor}
 use Rattle.factors.specs.EarlyPayment.{reducedPension}
-use Rattle.factors.proofs.Laws.{DeferredTerms, direct-range, deferred-range, active-range, commutation-range, reduced-by-entry, reduced-at-most}
+use Rattle.factors.proofs.CommutationLaws.{commutation-range}
+use Rattle.factors.proofs.EffectiveLaws.{DeferredTerms, direct-range, deferred-range, active-range}
+use Rattle.factors.proofs.EarlyPaymentLaws.{reduced-by-entry, reduced-at-most}
 use Rattle.split.specs.declared.case.Head.{Head}
 use Rattle.split.specs.declared.case.Pension.{Pension}
 use Rattle.split.specs.Case.{noPension}

@@ -9,7 +9,7 @@ use native.Mathlib.Omega.{arith}
 use lib.ListN.{length}
 use borrow.Author.Tests.{ne-eqb}
 use Rattle.calendar.specs.Tests.{lowest}
-use Rattle.calendar.proofs.TestLaws.{any-snoc}
+use Rattle.calendar.proofs.TestsLaws.{any-snoc}
 use Rattle.split.specs.declared.case.Head.{Head}
 use Rattle.split.specs.declared.case.Pension.{Pension}
 use Rattle.split.specs.Refusal.{ageOf, undated, disordered, unknownKind, conditionsWith}

@@ -12,7 +12,7 @@ use lib.ListN.{length, getD, List·getD-eq-default}
 use borrow.Author.Tests.{eqb-true}
 use Rattle.factors.proofs.Table.{below-at}
 use Rattle.split.specs.Frame.{noDigit, badCharacter, digitAt, numberAt, hexValue}
-use Rattle.calendar.proofs.TestLaws.{any-none}
+use Rattle.calendar.proofs.TestsLaws.{any-none}
 
 pub digit-below : (s : List ℕ) (at : ℕ) → digitAt s at < 16
 unfolding digitAt
@@ -24,27 +24,27 @@ number-below s at zero = omega arith
 number-below s at (suc n) = rw pow-suc (omega (arith, number-below s at n, digit-below s (at + n)))
 
 -- of n digits i are read, and make the value
-pub record Read (s : List ℕ) (at n value i : ℕ) : Type 0 where
+pub record DigitsRead (s : List ℕ) (at n value i : ℕ) : Type 0 where
   pub within : i ≤ n
   pub number : value ≡ numberAt s at i
 
-pub read-none : {s : List ℕ} {at n : ℕ} → Read s at n 0 0
+pub read-none : {s : List ℕ} {at n : ℕ} → DigitsRead s at n 0 0
 unfolding numberAt
 read-none = record { within = omega arith; number = refl }
 
 -- before the eighth there is room for one more in 32 bits
-pub read-room : {s : List ℕ} {at n value i : ℕ} → Read s at n value i → i < n → n ≤ 8 → value < 268435456
+pub read-room : {s : List ℕ} {at n value i : ℕ} → DigitsRead s at n value i → i < n → n ≤ 8 → value < 268435456
 read-room {s} {at} {i = i} read h eight =
     rw (read .number)
     (lt-of-lt-of-le (number-below s at i) (pow-le-pow-right {n = 16} (omega arith) {j = 7} (omega arith)))
 
 -- one more digit
-pub read-more : {s : List ℕ} {at n value i d : ℕ} → Read s at n value i → i < n → d ≡ digitAt s (at + i)
-    → Read s at n (value * 16 + d) (i + 1)
+pub read-more : {s : List ℕ} {at n value i d : ℕ} → DigitsRead s at n value i → i < n → d ≡ digitAt s (at + i)
+    → DigitsRead s at n (value * 16 + d) (i + 1)
 unfolding numberAt
 read-more read h e = record { within = omega arith; number = rw (add-one, read .number, e) }
 
-pub read-all : {s : List ℕ} {at n value i : ℕ} → Read s at n value i → n ≤ i → value ≡ numberAt s at n
+pub read-all : {s : List ℕ} {at n value i : ℕ} → DigitsRead s at n value i → n ≤ i → value ≡ numberAt s at n
 read-all {n = n} {i = i} read h = let all : i ≡ n = omega arith in rw all at (read .number)
 
 -- a digit's value by arithmetic: antt computes it at each of the 256 characters

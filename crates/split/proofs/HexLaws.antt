@@ -11,7 +11,7 @@ use lib.Dec.{eqb}
 use lib.ListN.{length, take, drop, length-append}
 use lib.Seq.{getD-append-add, getD-at, getD-take, getD-drop}
 use borrow.Author.Tests.{lt-ltb, le-ltb, le-leb, lt-leb, ne-eqb}
-use Rattle.calendar.proofs.TestLaws.{any-append, any-snoc}
+use Rattle.calendar.proofs.TestsLaws.{any-append, any-snoc}
 use Rattle.split.specs.Frame.{hexValue, noDigit, badCharacter, digitAt, numberAt, hexCharacter, hexText}
 
 -- what is no digit, by its value

@@ -24,7 +24,7 @@ use Rattle.split.specs.Reading.{caseOf}
 use Rattle.split.specs.Benefits.{workedTerms, benefitOf, benefitsOf}
 use Rattle.split.specs.Limits.{total, WithinCaps, Best}
 use Rattle.split.specs.Quote.{remainingOf, secondOf, shareOf, noShare, sharesOf, lumpsGranted, grantedQuote, refusedQuote, quoteOf, lumpsIn, BestLumps, SharesFit, QuoteFits}
-use Rattle.calendar.proofs.TestLaws.{lowest-none, by-zero}
+use Rattle.calendar.proofs.TestsLaws.{lowest-none, by-zero}
 use Rattle.split.proofs.FrameLaws.{number-below}
 use Rattle.split.proofs.CaseLaws.{pensions-counted}
 use Rattle.split.proofs.ReadingLaws.{count-listed, Read, case-unread}

@@ -8,7 +8,7 @@ use native.Mathlib.Omega.{arith}
 use lib.ListN.{length, getD, take, length-map, List·getD-map}
 use lib.Seq.{getD-take, length-take-le}
 use Rattle.calendar.specs.Tests.{lowest}
-use Rattle.calendar.proofs.SumLaws.{sum-at}
+use Rattle.calendar.proofs.SumsLaws.{sum-at}
 use Rattle.factors.specs.Effective.{FactorRange}
 use Rattle.split.specs.declared.case.Head.{Head}
 use Rattle.split.specs.declared.case.Pension.{Pension}

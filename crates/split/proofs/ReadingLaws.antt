@@ -10,7 +10,7 @@ use lib.ListN.{length, take}
 use lib.Seq.{take-at}
 use borrow.Author.Tests.{ne-eqb, not-false}
 use Rattle.calendar.specs.Tests.{within, lowest}
-use Rattle.calendar.proofs.TestLaws.{by-zero, and-left, within-bounds, lowest-none}
+use Rattle.calendar.proofs.TestsLaws.{by-zero, and-left, within-bounds, lowest-none}
 use Rattle.split.specs.declared.case.Head.{Head}
 use Rattle.split.specs.declared.case.Pension.{Pension}
 use Rattle.split.specs.declared.case.Case.{Case}

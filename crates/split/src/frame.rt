@@ -13,7 +13,7 @@ pub const HEAD_LENGTH: usize = 26;
 
 pub const PENSION_LENGTH: usize = 44;
 
-const LONGEST: usize = HEAD_LENGTH + 4 * PENSION_LENGTH;
+pub const LONGEST: usize = HEAD_LENGTH + 4 * PENSION_LENGTH;
 
 // The value of a character: 0-9 and A-F, and 16 for any other.
 pub fn hex_value(character: u8) -> u8

@@ -8,6 +8,7 @@ mod quoting;
 mod refusal;
 
 use answers::Quote;
+pub use frame::LONGEST;
 pub use frame::has_bad_character;
 pub use frame::hex_value;
 pub use frame::number_at;

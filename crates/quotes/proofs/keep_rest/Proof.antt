@@ -1,21 +1,22 @@
--- `keep_rest` stays inside the input, whose length stays: what is kept is no more than there is, nor than 203.
+-- `keep_rest` stays inside the input, whose length stays: what is kept is no more than there is, nor than one character more than the longest line.
 use Prim.Native.Nat.{_≤_, _<_, _+_, _-_}
 use mathlib.Core.Path.{_≡_}
 use native.Mathlib.Omega.{arith}
 use lib.ListN.{length}
 use borrow.Author.Tests.{ltb-true}
 use borrow.Author.Needs.{needs}
+use Rattle.split.specs.Case.{longestLine}
 use Rattle.quotes.proofs.keep_rest.Statement.{statement}
 use Rattle.quotes.proofs.keep_rest.Tie as tie
 
 abbrev Inv-loop : tie.InvT-loop
-Inv-loop input₀ from end kept₀ input kept = (from + kept ≤ end) × (kept ≤ 203) × (length input ≡ length input₀)
+Inv-loop input₀ from end kept₀ input kept = (from + kept ≤ end) × (kept ≤ longestLine + 1) × (length input ≡ length input₀)
 
 abbrev μ-loop : tie.MeasureT-loop
-μ-loop input₀ from end kept₀ input kept = 203 - kept
+μ-loop input₀ from end kept₀ input kept = longestLine + 1 - kept
 
 -- a turn begins with room for one more
-room : (c : tie.After-slice-known2 Inv-loop μ-loop) → c .before .before .before .loop .kept < 203
+room : (c : tie.After-slice-known2 Inv-loop μ-loop) → c .before .before .before .loop .kept < longestLine + 1
 room c = ltb-true _ _ (c .before .if1 .taken)
 
 loop-less : tie.Need-loop-less Inv-loop μ-loop

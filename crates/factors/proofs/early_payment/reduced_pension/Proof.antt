@@ -3,7 +3,7 @@ use Prim.Native.Nat.{_*_, _≤_}
 use native.Mathlib.Omega.{arith}
 use native.Mathlib.Nat.{mul-le-mul-left, le-of-lt}
 use Rattle.factors.specs.EarlyPayment.{reducedPension}
-use Rattle.factors.proofs.Laws.{early-payment-below}
+use Rattle.factors.proofs.EarlyPaymentLaws.{early-payment-below}
 use borrow.Author.Needs.{needs}
 use Rattle.factors.proofs.early_payment.reduced_pension.Statement.{statement}
 use Rattle.factors.proofs.early_payment.reduced_pension.Tie as tie

@@ -9,7 +9,7 @@ use lib.Dec.{eqb}
 use lib.ListN.{length-take, length-drop}
 use borrow.Author.Needs.{needs}
 use borrow.Author.Tests.{eqb-true, not-false}
-use Rattle.calendar.proofs.TestLaws.{and-left, and-right, or-left, or-right}
+use Rattle.calendar.proofs.TestsLaws.{and-left, and-right, or-left, or-right}
 use Rattle.split.specs.Frame.{numberAt}
 use Rattle.register.specs.Line.{figureWidth, textLength}
 use Rattle.register.specs.Layout.{lineLayout}

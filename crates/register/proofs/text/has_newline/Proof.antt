@@ -6,7 +6,7 @@ use lib.Dec.{eqb}
 use lib.ListN.{length, drop}
 use borrow.Author.Needs.{needs}
 use Rattle.calendar.specs.Tests.{any}
-use Rattle.calendar.proofs.TestLaws.{flag-more, flag-all}
+use Rattle.calendar.proofs.TestsLaws.{flag-more, flag-all}
 use Rattle.register.specs.Scan.{hasNewline}
 use Rattle.register.proofs.text.has_newline.Statement.{statement}
 use Rattle.register.proofs.text.has_newline.Tie as tie

@@ -2,12 +2,12 @@
 use Prim.Native.Nat.{_<_, _-_}
 use native.Mathlib.Omega.{arith}
 use borrow.Author.Needs.{needs}
-use Rattle.split.proofs.FrameLaws.{Read, read-none, read-room, read-more, read-all}
+use Rattle.split.proofs.FrameLaws.{DigitsRead, read-none, read-room, read-more, read-all}
 use Rattle.split.proofs.frame.digits_at.Statement.{statement}
 use Rattle.split.proofs.frame.digits_at.Tie as tie
 
 abbrev Inv-loop : tie.InvT-loop
-Inv-loop line at count value₀ i₀ value i = Read line at count value i
+Inv-loop line at count value₀ i₀ value i = DigitsRead line at count value i
 
 abbrev μ-loop : tie.MeasureT-loop
 μ-loop line at count value₀ i₀ value i = count - i

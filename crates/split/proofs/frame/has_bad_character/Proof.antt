@@ -7,7 +7,7 @@ use lib.ListN.{length, drop}
 use borrow.Author.Needs.{needs}
 use Rattle.split.specs.Frame.{badCharacter, noDigit}
 use Rattle.calendar.specs.Tests.{any}
-use Rattle.calendar.proofs.TestLaws.{flag-more, flag-all}
+use Rattle.calendar.proofs.TestsLaws.{flag-more, flag-all}
 use Rattle.split.proofs.frame.has_bad_character.Statement.{statement}
 use Rattle.split.proofs.frame.has_bad_character.Tie as tie
 

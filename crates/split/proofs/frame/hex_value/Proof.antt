@@ -1,6 +1,6 @@
 -- `hex_value` is the definition `hexValue`: the tests of its branches are the definition's.
 use native.Mathlib.Omega.{arith}
-use Rattle.calendar.proofs.TestLaws.{within-bounds}
+use Rattle.calendar.proofs.TestsLaws.{within-bounds}
 use Rattle.split.specs.Frame.{hexValue}
 use Rattle.split.proofs.frame.hex_value.Statement.{statement}
 use Rattle.split.proofs.frame.hex_value.Tie as tie

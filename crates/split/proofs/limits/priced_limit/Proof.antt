@@ -6,7 +6,7 @@ use native.Mathlib.Numerals.{add-one-le}
 use lib.ListN.{getD, take}
 use borrow.Author.Needs.{needs}
 use mir.Facts.{fits-below}
-use Rattle.calendar.proofs.SumLaws.{sum-next, sum-part}
+use Rattle.calendar.proofs.SumsLaws.{sum-next, sum-part}
 use Rattle.split.specs.declared.limits.Benefit.{Benefit}
 use Rattle.split.specs.Limits.{noBenefit, totalPension}
 use Rattle.split.proofs.ListLoop.{up-to, fewer, at-end}

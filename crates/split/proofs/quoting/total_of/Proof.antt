@@ -6,7 +6,7 @@ use native.Mathlib.Numerals.{add-one-le}
 use lib.ListN.{length, take}
 use mir.Facts.{fits-below}
 use Rattle.calendar.specs.Sums.{sumOf}
-use Rattle.calendar.proofs.SumLaws.{sum-next, sum-within}
+use Rattle.calendar.proofs.SumsLaws.{sum-next, sum-within}
 use Rattle.split.specs.declared.grant.Row.{Row}
 use Rattle.split.specs.Grant.{noRow}
 use Rattle.split.proofs.ListLoop.{up-to, fewer, at-end}

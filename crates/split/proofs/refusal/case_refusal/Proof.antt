@@ -9,7 +9,7 @@ use lib.ListN.{length, take}
 use borrow.Author.Needs.{needs}
 use mir.Facts.{fits-below}
 use Rattle.calendar.specs.Tests.{lowest}
-use Rattle.calendar.proofs.SumLaws.{sum-next}
+use Rattle.calendar.proofs.SumsLaws.{sum-next}
 use Rattle.split.specs.declared.case.Pension.{Pension}
 use Rattle.split.specs.Refusal.{ageOf, totalStated, conditionsWith}
 use Rattle.split.specs.Case.{noPension}

@@ -9,7 +9,7 @@ use native.Mathlib.Omega.{arith}
 use lib.Dec.{leb, ltb, eqb}
 use borrow.Author.Tests.{ltb-true, eqb-true, leb-true, lt-ltb, le-ltb, eq-eqb}
 use Rattle.calendar.specs.declared.Date.{Date}
-use Rattle.calendar.proofs.TestLaws.{and-left, and-right, not-true-false}
+use Rattle.calendar.proofs.TestsLaws.{and-left, and-right, not-true-false}
 use Rattle.calendar.specs.Calendar.{beforeBy, earlier, inCalendar, yearIn, monthIn, dayIn, lengthIn, monthIndex, incomplete, months, sixtiethBirthday}
 
 -- what `beforeBy` says
