@@ -8,7 +8,6 @@ use lib.ListN.{length}
 use Rattle.register.specs.declared.answers.Filed.{Filed}
 use Rattle.register.specs.declared.answers.FiledLines.{FiledLines}
 use Rattle.register.specs.Layout.{Register, lent}
-use Rattle.register.specs.Steps.{Step}
 use Rattle.register.specs.File.{Filing, filing, fileRun}
 use Rattle.register.specs.Ledger.{ListClaim}
 

@@ -1,10 +1,8 @@
 -- `line_end` passes spans without a newline: no character passed is one, and the first from there on is the line's end.
-use Prim.Native.Nat.{ℕ, _≤_, _<_, _-_}
-use mathlib.Core.Bool.{false}
-use mathlib.Core.Path.{_≡_, sym, _∙_}
+use Prim.Native.Nat.{_≤_, _-_}
+use mathlib.Core.Path.{sym, _∙_}
 use native.Mathlib.Omega.{arith}
-use lib.Dec.{eqb}
-use lib.ListN.{length, getD}
+use lib.ListN.{length}
 use borrow.Author.Needs.{needs}
 use Rattle.register.proofs.TextLoop.{Unbroken, unbroken-span, end-further}
 use Rattle.register.proofs.text.line_end.Statement.{statement}

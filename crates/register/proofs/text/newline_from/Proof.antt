@@ -1,10 +1,7 @@
 -- `newline_from` scans to the newline: no character passed is one.
-use Prim.Native.Nat.{ℕ, _≤_, _<_, _-_}
-use mathlib.Core.Bool.{false}
-use mathlib.Core.Path.{_≡_}
+use Prim.Native.Nat.{_≤_, _-_}
 use native.Mathlib.Omega.{arith}
-use lib.Dec.{eqb}
-use lib.ListN.{length, getD}
+use lib.ListN.{length}
 use borrow.Author.Needs.{needs}
 use Rattle.register.proofs.TextLoop.{Unbroken, unbroken-more}
 use Rattle.register.proofs.text.newline_from.Statement.{statement}
