@@ -14,7 +14,7 @@ use Rattle.register.specs.Line.{figuresFor, figuresIn, lineFor, numberIn
 use Rattle.register.specs.Layout.{Register, lent, lineLayout, usedLines}
 use Rattle.register.specs.Steps.{Step, runs}
 use Rattle.register.specs.Find.{findRefusal, findLine, hasNumber}
-use Rattle.register.specs.File.{Filing, numberGiven, fileRefusal, fileStep, fileRun}
+use Rattle.register.specs.File.{Filing, numberGiven, fileRefusal, fileStep, fileRun, FiledFound}
 use Rattle.register.specs.Ledger.{Ledger, emptyLedger, ledgerAfter, ledgerStep, ledgerRun, ListClaim}
 use Rattle.register.proofs.LineLaws.{number-back, figures-back}
 use Rattle.register.proofs.CheckLaws.{number-inside, sound-number}
@@ -77,14 +77,6 @@ shown-found g b k held h =
     rw lines
     (ne-eqb (numberIn (getD (b .lines) j [])) n
     (λ e. omega (arith, at j (rw lines at m), at k h)))))
-
--- what holds of a line filed under a number, in the register that its filing and any later ones left
-pub record FiledFound (number : ℕ) (f : Filing) (after : Register) : Type 0 where
-  -- found by that number, it is not refused and is that very line
-  pub present : findRefusal (hasNumber number) after ≡ 0
-  pub line : findLine (hasNumber number) after ≡ lineFor number (f .line)
-  -- so it shows the member and the figures granted to the case, read back from its digits
-  pub shows : figuresIn (findLine (hasNumber number) after) ≡ figuresFor number (f .line)
 
 -- of a register that shows a ledger
 shown-filed : (g : List ℕ) (b : Ledger) (f : Filing) (fs : List Filing) → Held (length g) b → fileRefusal (shown g b) f ≡ 0

@@ -74,7 +74,7 @@ text-refused r f some = simp (ne-eqb (fileRefusal r f) 0 some)
 pub number-fits : (n bound : ℕ) → firstNumber < bound → n < bound → cond (eqb n 0) firstNumber n < bound
 number-fits n bound first h = by-zero (λ x. x < bound) n firstNumber n (λ e. first) (λ e. h)
 
--- the number given: right behind its lines, below 33 bits where the next is, and the next is one more behind its line
+-- the number given: right behind its lines, within 32 bits where the next is, and the next is one more behind its line
 module _ (ls : List (List ℕ)) where
   pub given-right : wrongNumber (nextNumber ls) (numberGiven ls) ≡ false
   unfolding numberGiven

@@ -2,14 +2,16 @@
 use Prim.Native.Nat.{ℕ, _+_, _-_}
 use mathlib.Core.Bool.{Bool, cond, not}
 use mathlib.Core.List.{List, [], _∷_, _++_}
+use mathlib.Core.Path.{_≡_}
 use lib.Dec.{leb, ltb, eqb}
 use lib.ListN.{length, take, drop}
 use Rattle.calendar.specs.Tests.{lowest}
 use Rattle.split.specs.Refusal.{refusalOf}
 use Rattle.register.specs.declared.answers.Filed.{Filed}
-use Rattle.register.specs.Line.{lineFor}
+use Rattle.register.specs.Line.{figuresFor, figuresIn, lineFor}
 use Rattle.register.specs.Layout.{Register, lineLength, usedLines}
 use Rattle.register.specs.Check.{nextNumber, checkOf}
+use Rattle.register.specs.Find.{hasNumber, findRefusal, findLine}
 use Rattle.register.specs.Steps.{Step, runs}
 
 -- what is filed: a case line
@@ -71,3 +73,11 @@ fileStep r f =
 -- "Each filing gets the buffer and the used length as the one before left them"
 abbrev pub fileRun : Register → List Filing → Step (List Filed) Register
 fileRun r fs = runs fileStep r fs
+
+-- What is claimed of a line filed under a number, in the register that its filing and any later ones left (demand 2).
+pub record FiledFound (number : ℕ) (f : Filing) (after : Register) : Type 0 where
+  -- found by that number, it is not refused and is that very line
+  pub present : findRefusal (hasNumber number) after ≡ 0
+  pub line : findLine (hasNumber number) after ≡ lineFor number (f .line)
+  -- so it shows the member and the figures granted to the case, read back from its digits
+  pub shows : figuresIn (findLine (hasNumber number) after) ≡ figuresFor number (f .line)

@@ -1,5 +1,5 @@
--- A register and how its used part is cut into lines, for any layout of a line; today's names are the one layout of
--- document 01 ("Register"). Assumes nothing.
+-- A register and how its used part is cut into lines, for any layout of a line. The names without `By` are those
+-- of document 01's one layout ("Register"). Assumes nothing.
 use Prim.Native.Nat.{ℕ, zero, suc, _+_, _/_}
 use mathlib.Core.Bool.{Bool, false}
 use mathlib.Core.List.{List, [], _∷_, _++_}

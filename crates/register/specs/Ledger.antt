@@ -15,8 +15,8 @@ use Rattle.register.specs.Check.{badUsed, checkLines}
 use Rattle.register.specs.Steps.{Step, runs}
 use Rattle.register.specs.File.{Filing, filing, firstNumber, numberGiven, refusalGiven, filedAnswer}
 
--- "Its state is a list of register lines, none at first, which stand for the used part"; beside them stand the filings granted so far, of which nothing is asked
--- but by the claim below
+-- "Its state is a list of register lines, none at first, which stand for the used part"; beside them stand the filings granted
+-- so far, for which only the claim below asks
 pub record Ledger : Type 0 where
   pub lines : List (List ℕ)
   pub granted : List Filing

@@ -160,10 +160,11 @@ active-aged : (h : Head) (p : Pension) → AcceptedPension h p → p .kind ≡ 3
 unfolding wrongAge
 active-aged h p a kind = ltb-false (ageOf h) 660 (simp kind at (a .aged))
 
-pub early-paid : (h : Head) (ps : List Pension) → Accepted h ps → (j : ℕ) → j < length ps → getD ps j noPension .kind ≡ 3
+pub early-paid : (h : Head) (ps : List Pension) → lowest 3 (conditions h ps) ≡ 0 → (j : ℕ) → j < length ps → getD ps j noPension .kind ≡ 3
     → ageOf h < 720 → EarlyPaid h (getD ps j noPension) (months (h .commencement) (sixtiethBirthday (h .birth)))
 unfolding ageOf undatedHead workedPension
-early-paid h ps a j place kind young =
+early-paid h ps none j place kind young =
+    let a = case-accepted h ps none in
     let birth = or-left (not (inCalendar (h .birth))) _ (a .head-dated) in
     let last = months-to-sixtieth (h .birth) (h .commencement) (active-aged h (getD ps j noPension) (a .each j place) kind) young in
     let entry = reduced-by-entry (getD ps j noPension .stated .0) (months (h .commencement) (sixtiethBirthday (h .birth))) last in

@@ -1,5 +1,5 @@
--- How characters become fields ("Case line" of document 01). Every definition is total: past the end of a line,
--- and where a character is no digit, a digit counts as 0. Assumes nothing.
+-- How characters become fields ("Case line" of document 01), and how a number is written in them. Every definition is
+-- total: past the end of a line, and where a character is no digit, a digit counts as 0. Assumes nothing.
 use Prim.Native.Nat.{ℕ, zero, suc, _+_, _-_, _*_, _/_, _%_}
 use mathlib.Core.Bool.{Bool, cond, _&&_}
 use mathlib.Core.List.{List, [], _∷_, _++_}
