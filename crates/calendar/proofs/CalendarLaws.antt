@@ -1,5 +1,6 @@
 -- Laws of dates for the crates above: what they cite instead of the definitions' text. `earlier` is a
--- strict order; months to the 60th birthday never pass a bound that the age gives. Assumes nothing.
+-- strict order; months to the 60th birthday never pass a bound that the age gives, and it is not past while the age is below
+-- 720 months. Assumes nothing.
 use mathlib.Core.Path.{_≡_, refl}
 use mathlib.Core.Bool.{Bool, true, false, cond, _&&_, _||_, false≢true}
 use mathlib.Core.Logic.{_⊎_, inl, inr, ⊎-elim}

@@ -10,7 +10,7 @@ use lib.Seq.{getD-at}
 use borrow.Author.Tests.{eq-eqb, ne-eqb}
 use Rattle.register.specs.declared.answers.Checked.{Checked}
 use Rattle.register.specs.declared.answers.Filed.{Filed}
-use Rattle.register.specs.Line.{figuresFor, figuresIn, lineFor, numberIn}
+use Rattle.register.specs.Line.{figuresIn, lineFor, numberIn}
 use Rattle.register.specs.Layout.{Register, lent, lineLayout, usedLines}
 use Rattle.register.specs.Steps.{Step, runs}
 use Rattle.register.specs.Find.{findRefusal, findLine, hasNumber}

@@ -5,7 +5,7 @@ use mathlib.Core.Bool.{false}
 use mathlib.Core.List.{List, [], _∷_, _++_, append-assoc}
 use mathlib.Core.Path.{_≡_, refl, _∙_, ap}
 use native.Mathlib.Omega.{arith}
-use lib.ListN.{length, getD, length-append, List·getD-append}
+use lib.ListN.{length, getD, take, drop, length-append, List·getD-append}
 use lib.Seq.{getD-at}
 use Rattle.split.specs.declared.answers.Share.{Share}
 use Rattle.split.specs.Frame.{noDigit, badCharacter, numberAt, hexText}
@@ -13,7 +13,7 @@ use Rattle.split.specs.Quote.{quoteOf, SharesFit, lumpsIn}
 use Rattle.split.proofs.FrameLaws.{digit-known}
 use Rattle.split.proofs.HexLaws.{hex-length, hex-good, hex-back, good-append, good-none}
 use Rattle.split.proofs.QuoteLaws.{quote-fits}
-use Rattle.register.specs.Line.{figureWidth, shareLength, shareCount, textLength, Figures, figuresOf, figuresFor, headerFigures, shareFigures, figuresText, sharesText, lineText, lineFor, numberIn, memberIn, totalIn, shareAt, sharesAt, sharesIn, figuresIn, lumpsInLine}
+use Rattle.register.specs.Line.{figureWidth, headerLength, secondPlace, shareLength, shareCount, textLength, Figures, figuresOf, figuresFor, shareFigures, sharesFigures, lineFigures, figuresText, lineText, lineFor, numberIn, memberIn, totalIn, shareAt, sharesAt, sharesIn, figuresIn, lumpsInLine}
 
 -- figures one after the other: their text's length, that it is all digits, and that it is read back
 pub figures-length : (xs : List ℕ) → length (figuresText xs) ≡ length xs * figureWidth
@@ -46,74 +46,61 @@ figures-behind (x ∷ xs) pre rest fit =
       simp (append-assoc, length-append, hex-length) at (figures-behind xs (pre ++ hexText figureWidth x) rest (fit .1)),
     )
 
--- a share by its three figures, and the shares behind any text
-share-behind : (l : List ℕ) (at : ℕ) (x : Share) → figuresAt l at 3 ≡ shareFigures x → shareAt l at ≡ x
-share-behind l at x e =
-    let third : at + 16 ≡ at + figureWidth + figureWidth = omega arith in
+-- two lists of figures one after the other
+pub figures-append : (xs ys : List ℕ) → figuresText (xs ++ ys) ≡ figuresText xs ++ figuresText ys
+unfolding figuresText
+figures-append [] ys = refl
+figures-append (x ∷ xs) ys = simp (append-assoc, figures-append xs ys)
+
+-- the shares by their figures: how many, that they fit, and that they are read back from a place
+shares-count : (xs : List Share) → length (sharesFigures xs) ≡ length xs * 3
+shares-count [] = refl
+shares-count (x ∷ xs) = omega (arith, shares-count xs)
+
+shares-fit : (xs : List Share) → SharesFit xs → Fit (sharesFigures xs)
+shares-fit [] fit = tt
+shares-fit (x ∷ xs) fit = (fit .0, (fit .1, (fit .2, shares-fit xs (fit .3))))
+
+share-from : (l : List ℕ) (at : ℕ) (x : Share) → figuresAt l at 3 ≡ shareFigures x → shareAt l at ≡ x
+share-from l at x e =
+    let third : at + secondPlace ≡ at + figureWidth + figureWidth = omega arith in
     λ i. record {
       lump = record { 0 = ap (λ (xs : List ℕ). getD xs 0 0) e i };
       remaining = record { 0 = ap (λ (xs : List ℕ). getD xs 1 0) e i };
       second = record { 0 = (ap (λ (n : ℕ). numberAt l n figureWidth) third ∙ ap (λ (xs : List ℕ). getD xs 2 0) e) i };
     }
 
-shares-behind : (xs : List Share) (pre rest : List ℕ) → SharesFit xs
-    → sharesAt (pre ++ (sharesText xs ++ rest)) (length pre) (length xs) ≡ xs
-unfolding sharesText
-shares-behind [] pre rest fit = refl
-shares-behind (x ∷ xs) pre rest fit =
-    simp (
-      append-assoc,
-      share-behind _ (length pre) x
-          (figures-behind (shareFigures x) pre (sharesText xs ++ rest) (fit .0, (fit .1, (fit .2, tt)))),
-      simp (append-assoc, length-append, figures-length (shareFigures x)) at
-          (shares-behind xs (pre ++ figuresText (shareFigures x)) rest (fit .3)),
-    )
+shares-from : (xs : List Share) (l : List ℕ) (at : ℕ) → figuresAt l at (length (sharesFigures xs)) ≡ sharesFigures xs
+    → sharesAt l at (length xs) ≡ xs
+shares-from [] l at e = refl
+shares-from (x ∷ xs) l at e =
+    let next : at + shareLength ≡ at + figureWidth + figureWidth + figureWidth = omega arith in
+    simp (share-from l at x (ap (take 3) e), next, shares-from xs l (at + figureWidth + figureWidth + figureWidth) (ap (drop 3) e))
 
-pub shares-length : (xs : List Share) → length (sharesText xs) ≡ length xs * shareLength
-unfolding sharesText
-shares-length [] = omega arith
-shares-length (x ∷ xs) = simp (length-append, figures-length, shares-length xs) (omega arith)
-
-shares-good : (xs : List Share) → badCharacter (sharesText xs) ≡ false
-unfolding sharesText
-shares-good [] = good-none
-shares-good (x ∷ xs) = good-append _ _ (figures-good (shareFigures x)) (shares-good xs)
-
--- a line of any figures: the characters before the newline
-abbrev before : Figures → List ℕ
-before f = figuresText (headerFigures f) ++ sharesText (f .shares)
-
-line-before : (f : Figures) → lineText f ≡ before f ++ (10 ∷ [])
-unfolding lineText
-line-before f = simp append-assoc
-
+-- a line of any figures with as many shares as a line has
 module _ (f : Figures) (four : length (f .shares) ≡ shareCount) where
-  pub before-length : length (before f) ≡ textLength
+  pub before-length : length (figuresText (lineFigures f)) ≡ textLength
   unfolding textLength
-  before-length = simp (length-append, figures-length, shares-length, four)
+  before-length = figures-length (lineFigures f) ∙ simp (shares-count (f .shares), four)
 
   pub text-length : length (lineText f) ≡ textLength + 1
-  text-length = rw (line-before f, length-append (before f) (10 ∷ []), before-length)
+  unfolding lineText
+  text-length = rw (length-append (figuresText (lineFigures f)) (10 ∷ []), before-length)
 
   text-digit : (i : ℕ) → i < textLength → noDigit (getD (lineText f) i 0) ≡ false
+  unfolding lineText
   text-digit i h =
-      rw (line-before f, List·getD-append (before f) (10 ∷ []) 0 i (omega (arith, before-length)))
-      (digit-known (before f) i (good-append _ _ (figures-good (headerFigures f)) (shares-good (f .shares))) (omega (arith, before-length)))
+      rw (List·getD-append (figuresText (lineFigures f)) (10 ∷ []) 0 i (omega (arith, before-length)))
+      (digit-known (figuresText (lineFigures f)) i (figures-good (lineFigures f)) (omega (arith, before-length)))
 
   text-end : getD (lineText f) textLength 0 ≡ 10
-  text-end = rw (line-before f) (getD-at (before f) 10 [] 0 textLength before-length)
+  unfolding lineText
+  text-end = getD-at (figuresText (lineFigures f)) 10 [] 0 textLength before-length
 
-  module _ (header : Fit (headerFigures f)) (fits : SharesFit (f .shares)) where
-    header-back : figuresAt (lineText f) 0 3 ≡ headerFigures f
-    unfolding lineText
-    header-back = figures-behind (headerFigures f) [] _ header
-
-    shares-back : sharesIn (lineText f) ≡ f .shares
-    unfolding sharesIn lineText
-    shares-back =
-        rw four at
-        (simp (figures-length (headerFigures f)) at
-        (shares-behind (f .shares) (figuresText (headerFigures f)) (10 ∷ []) fits))
+-- its figures are read back
+text-back : (f : Figures) → Fit (lineFigures f) → figuresAt (lineText f) 0 (length (lineFigures f)) ≡ lineFigures f
+unfolding lineText
+text-back f fit = figures-behind (lineFigures f) [] (10 ∷ []) fit
 
 -- the line of a case under a number
 module _ (k : ℕ) (c : List ℕ) where
@@ -134,33 +121,34 @@ module _ (k : ℕ) (c : List ℕ) where
   line-end = text-end (figuresFor k c) four
 
   module _ (low : k < 4294967296) where
-    header-read : figuresAt (lineFor k c) 0 3 ≡ headerFigures (figuresFor k c)
+    line-back : figuresAt (lineFor k c) 0 (length (lineFigures (figuresFor k c))) ≡ lineFigures (figuresFor k c)
     unfolding lineFor figuresFor figuresOf
-    header-read =
-        header-back (figuresFor k c) four (low, (quote-fits c .member, (quote-fits c .total, tt))) (quote-fits c .shares)
+    line-back =
+        text-back (figuresFor k c)
+        (low, (quote-fits c .member, (quote-fits c .total, shares-fit (quoteOf c .shares) (quote-fits c .shares))))
 
-    shares-read : sharesIn (lineFor k c) ≡ quoteOf c .shares
-    unfolding lineFor figuresFor figuresOf
-    shares-read =
-        shares-back (figuresFor k c) four (low, (quote-fits c .member, (quote-fits c .total, tt))) (quote-fits c .shares)
+    shares-back : sharesIn (lineFor k c) ≡ quoteOf c .shares
+    unfolding sharesIn figuresFor figuresOf
+    shares-back =
+        rw (quote-fits c .four) at (shares-from (quoteOf c .shares) (lineFor k c) headerLength (ap (drop 3) line-back))
 
     pub number-back : numberIn (lineFor k c) ≡ k
     unfolding numberIn figuresFor figuresOf
-    number-back = ap (λ (xs : List ℕ). getD xs 0 0) header-read
+    number-back = ap (λ (xs : List ℕ). getD xs 0 0) line-back
 
     pub total-back : totalIn (lineFor k c) ≡ quoteOf c .total .0
     unfolding totalIn figuresFor figuresOf
-    total-back = ap (λ (xs : List ℕ). getD xs 2 0) header-read
+    total-back = ap (λ (xs : List ℕ). getD xs 2 0) line-back
 
     pub lumps-back : lumpsInLine (lineFor k c) ≡ lumpsIn (quoteOf c .shares)
     unfolding lumpsInLine
-    lumps-back = ap lumpsIn shares-read
+    lumps-back = ap lumpsIn shares-back
 
     pub figures-back : figuresIn (lineFor k c) ≡ figuresFor k c
     unfolding figuresIn memberIn figuresFor figuresOf
     figures-back = λ i. record {
       number = number-back i;
-      member = ap (λ (xs : List ℕ). getD xs 1 0) header-read i;
+      member = ap (λ (xs : List ℕ). getD xs 1 0) line-back i;
       total = total-back i;
-      shares = shares-read i;
+      shares = shares-back i;
     }

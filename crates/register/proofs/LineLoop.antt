@@ -12,8 +12,8 @@ use Rattle.split.specs.declared.answers.Share.{Share}
 use Rattle.split.specs.Frame.{hexCharacter, hexText}
 use Rattle.split.specs.Quote.{noShare}
 use Rattle.split.proofs.HexLaws.{hex-length, hex-none, hex-more}
-use Rattle.register.specs.Line.{figureWidth, headerLength, shareLength, shareCount, textLength, Figures, headerFigures, shareFigures, figuresText, sharesText, lineText}
-use Rattle.register.proofs.LineLaws.{figures-length, shares-length, text-length}
+use Rattle.register.specs.Line.{figureWidth, headerLength, shareLength, shareCount, textLength, Figures, headerFigures, shareFigures, sharesFigures, lineFigures, figuresText, lineText}
+use Rattle.register.proofs.LineLaws.{figures-length, figures-append, before-length, text-length}
 
 -- a store behind a run of stores may come first
 set-sets : (l : List ℕ) (j y i : ℕ) (vs : List ℕ) → i + length vs ≤ j → set (sets l i vs) j y ≡ sets (set l j y) i vs
@@ -68,52 +68,47 @@ three-written l l₁ l₂ l₃ at at₁ at₂ x y z e e₂ a b c =
 
 -- the next of the shares left to write, and none
 pub share-next : (l after whole : List ℕ) (xs : List Share) (i : ℕ) → i < length xs
-    → sets l (headerLength + shareLength * i) (sharesText (drop i xs)) ≡ whole
+    → sets l (headerLength + shareLength * i) (figuresText (sharesFigures (drop i xs))) ≡ whole
     → after ≡ sets l (headerLength + shareLength * i) (figuresText (shareFigures (getD xs i noShare)))
-    → sets after (headerLength + shareLength * (i + 1)) (sharesText (drop (i + 1) xs)) ≡ whole
-unfolding sharesText
+    → sets after (headerLength + shareLength * (i + 1)) (figuresText (sharesFigures (drop (i + 1) xs))) ≡ whole
 share-next l after whole xs i h inv stored =
     let x = getD xs i noShare in
+    let rest = sharesFigures (drop (suc i) xs) in
     let at = headerLength + shareLength * i in
     let on : headerLength + shareLength * (i + 1) ≡ at + length (figuresText (shareFigures x)) =
     omega (arith, figures-length (shareFigures x))
     in
     rw (on, stored, add-one i)
-    (sym (sets-append l at (figuresText (shareFigures x)) (sharesText (drop (suc i) xs)))
-    ∙ ap (λ (ys : List Share). sets l at (sharesText ys)) (sym (drop-cons xs i noShare h))
+    (sym (sets-append l at (figuresText (shareFigures x)) (figuresText rest))
+    ∙ ap (sets l at) (sym (figures-append (shareFigures x) rest))
+    ∙ ap (λ (ys : List Share). sets l at (figuresText (sharesFigures ys))) (sym (drop-cons xs i noShare h))
     ∙ inv)
 
 pub shares-end : (l whole : List ℕ) (xs : List Share) (i : ℕ) → length xs ≤ i
-    → sets l (headerLength + shareLength * i) (sharesText (drop i xs)) ≡ whole → l ≡ whole
-unfolding sharesText
+    → sets l (headerLength + shareLength * i) (figuresText (sharesFigures (drop i xs))) ≡ whole → l ≡ whole
+unfolding figuresText
 shares-end l whole xs i h inv =
-    ap (λ (ys : List Share). sets l (headerLength + shareLength * i) (sharesText ys)) (sym (drop-of-length-le xs {i = i} h)) ∙ inv
-
-behind-header : (xs : List Share) → length xs ≡ shareCount → headerLength + length (sharesText xs) ≡ textLength
-unfolding textLength
-behind-header xs four = simp (shares-length xs, four)
+    ap (λ (ys : List Share). sets l (headerLength + shareLength * i) (figuresText (sharesFigures ys)))
+    (sym (drop-of-length-le xs {i = i} h)) ∙ inv
 
 -- header and shares are written, and the newline comes behind them
 pub line-written : (f : Figures) (line l l₀ : List ℕ) → length (f .shares) ≡ shareCount → length l₀ ≡ textLength + 1
-    → l ≡ sets l₀ 0 (figuresText (headerFigures f)) → line ≡ sets l headerLength (sharesText (f .shares))
+    → l ≡ sets l₀ 0 (figuresText (headerFigures f)) → line ≡ sets l headerLength (figuresText (sharesFigures (f .shares)))
     → set line textLength 10 ≡ lineText f
 unfolding lineText
 line-written f line l l₀ four size header shares =
     let h = figuresText (headerFigures f) in
-    let s = sharesText (f .shares) in
-    let h-length : length h ≡ headerLength = figures-length (headerFigures f) in
-    let s-length : headerLength + length s ≡ textLength = behind-header (f .shares) four in
-    let start : length h ≡ 0 + length h = omega arith in
-    let all : length (h ++ (s ++ (10 ∷ []))) ≡ textLength + 1 = text-length f four in
-    rw (
-      shares,
-      header,
-      ← s-length,
-      ← h-length,
-      ← sets-append (sets l₀ 0 h) (length h) s (10 ∷ []),
-    )
-    (ap (λ (n : ℕ). sets (sets l₀ 0 h) n (s ++ (10 ∷ []))) start
-    ∙ sym (sets-append l₀ 0 h (s ++ (10 ∷ [])))
-    ∙ sets-eq (h ++ (s ++ (10 ∷ []))) l₀ 0 (omega arith)
-    ∙ ap (λ (r : List ℕ). (h ++ (s ++ (10 ∷ []))) ++ r) (drop-of-length-le l₀ {i = 0 + length (h ++ (s ++ (10 ∷ [])))} (omega arith))
-    ∙ append-nil (h ++ (s ++ (10 ∷ []))))
+    let s = figuresText (sharesFigures (f .shares)) in
+    let text = figuresText (lineFigures f) in
+    let start : headerLength ≡ 0 + length h = omega (arith, figures-length (headerFigures f)) in
+    let all : length (text ++ (10 ∷ [])) ≡ textLength + 1 = text-length f four in
+    let written : line ≡ sets l₀ 0 text =
+    shares ∙ ap (λ (m : List ℕ). sets m headerLength s) header ∙ ap (λ (n : ℕ). sets (sets l₀ 0 h) n s) start
+    ∙ sym (sets-append l₀ 0 h s) ∙ ap (sets l₀ 0) (sym (figures-append (headerFigures f) (sharesFigures (f .shares))))
+    in
+    let end : textLength ≡ 0 + length text = omega (arith, before-length f four) in
+    ap (λ (m : List ℕ). set m textLength 10) written ∙ ap (λ (n : ℕ). set (sets l₀ 0 text) n 10) end
+    ∙ sym (sets-append l₀ 0 text (10 ∷ []))
+    ∙ sets-eq (text ++ (10 ∷ [])) l₀ 0 (omega arith)
+    ∙ ap (λ (r : List ℕ). (text ++ (10 ∷ [])) ++ r) (drop-of-length-le l₀ {i = 0 + length (text ++ (10 ∷ []))} (omega arith))
+    ∙ append-nil (text ++ (10 ∷ []))

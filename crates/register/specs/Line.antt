@@ -64,18 +64,22 @@ headerFigures f = f .number ∷ f .member ∷ f .total ∷ []
 abbrev pub shareFigures : Share → List ℕ
 shareFigures x = x .lump .0 ∷ x .remaining .0 ∷ x .second .0 ∷ []
 
+abbrev pub sharesFigures : List Share → List ℕ
+sharesFigures [] = []
+sharesFigures (x ∷ xs) = shareFigures x ++ sharesFigures xs
+
+-- those of a line: the header's, then each share's
+abbrev pub lineFigures : Figures → List ℕ
+lineFigures f = headerFigures f ++ sharesFigures (f .shares)
+
 -- figures written one after the other
 unfoldable pub figuresText : List ℕ → List ℕ
 figuresText [] = []
 figuresText (x ∷ xs) = hexText figureWidth x ++ figuresText xs
 
-unfoldable pub sharesText : List Share → List ℕ
-sharesText [] = []
-sharesText (x ∷ xs) = figuresText (shareFigures x) ++ sharesText xs
-
 -- a line of figures
 unfoldable pub lineText : Figures → List ℕ
-lineText f = figuresText (headerFigures f) ++ (sharesText (f .shares) ++ (10 ∷ []))
+lineText f = figuresText (lineFigures f) ++ (10 ∷ [])
 
 -- the line of a case line under a number
 unfoldable pub lineFor : ℕ → List ℕ → List ℕ

@@ -5,7 +5,7 @@ use native.Mathlib.Omega.{arith}
 use lib.ListN.{length, drop, length-set}
 use lib.Seq.{sets, length-sets}
 use borrow.Author.Needs.{needs}
-use Rattle.register.specs.Line.{headerLength, shareLength, shareCount, textLength, figuresOf, sharesText}
+use Rattle.register.specs.Line.{headerLength, shareLength, shareCount, textLength, figuresOf, sharesFigures, figuresText}
 use Rattle.register.proofs.LineLoop.{share-next, shares-end, line-written}
 use Rattle.register.proofs.layout.write_line.Statement.{statement}
 use Rattle.register.proofs.layout.write_line.Tie as tie
@@ -13,7 +13,8 @@ use Rattle.register.proofs.layout.write_line.Tie as tie
 abbrev Inv-loop : tie.InvT-loop
 Inv-loop line₀ number shares i₀ line i =
     (i ≤ shareCount) × (length line ≡ length line₀)
-    × (sets line (headerLength + shareLength * i) (sharesText (drop i shares)) ≡ sets line₀ headerLength (sharesText shares))
+    × (sets line (headerLength + shareLength * i) (figuresText (sharesFigures (drop i shares)))
+    ≡ sets line₀ headerLength (figuresText (sharesFigures shares)))
 
 abbrev μ-loop : tie.MeasureT-loop
 μ-loop line₀ number shares i₀ line i = shareCount - i
