@@ -9,11 +9,11 @@ use lib.ListN.{length, getD, take, drop, length-append, List·getD-append}
 use lib.Seq.{getD-at}
 use Rattle.split.specs.declared.answers.Share.{Share}
 use Rattle.split.specs.Frame.{noDigit, badCharacter, numberAt, hexText}
-use Rattle.split.specs.Quote.{quoteOf, SharesFit, lumpsIn}
+use Rattle.split.specs.Quote.{quoteOf, noShare, SharesFit, lumpsIn}
 use Rattle.split.proofs.FrameLaws.{digit-known}
 use Rattle.split.proofs.HexLaws.{hex-length, hex-good, hex-back, good-append, good-none}
 use Rattle.split.proofs.QuoteLaws.{quote-fits}
-use Rattle.register.specs.Line.{figureWidth, headerLength, secondPlace, shareLength, shareCount, textLength, Figures, figuresOf, figuresFor, shareFigures, sharesFigures, lineFigures, figuresText, lineText, lineFor, numberIn, memberIn, totalIn, shareAt, sharesAt, sharesIn, figuresIn, lumpsInLine}
+use Rattle.register.specs.Line.{figureWidth, headerLength, secondPlace, shareLength, shareCount, textLength, Figures, figuresOf, figuresFor, headerFigures, shareFigures, sharesFigures, lineFigures, figuresText, lineText, lineFor, numberIn, memberIn, totalIn, shareAt, sharesAt, sharesIn, figuresIn, lumpsInLine}
 
 -- figures one after the other: their text's length, that it is all digits, and that it is read back
 pub figures-length : (xs : List ℕ) → length (figuresText xs) ≡ length xs * figureWidth
@@ -53,7 +53,7 @@ figures-append [] ys = refl
 figures-append (x ∷ xs) ys = simp (append-assoc, figures-append xs ys)
 
 -- the shares by their figures: how many, that they fit, and that they are read back from a place
-shares-count : (xs : List Share) → length (sharesFigures xs) ≡ length xs * 3
+shares-count : (xs : List Share) → length (sharesFigures xs) ≡ length xs * length (shareFigures noShare)
 shares-count [] = refl
 shares-count (x ∷ xs) = omega (arith, shares-count xs)
 
@@ -61,7 +61,7 @@ shares-fit : (xs : List Share) → SharesFit xs → Fit (sharesFigures xs)
 shares-fit [] fit = tt
 shares-fit (x ∷ xs) fit = (fit .0, (fit .1, (fit .2, shares-fit xs (fit .3))))
 
-share-from : (l : List ℕ) (at : ℕ) (x : Share) → figuresAt l at 3 ≡ shareFigures x → shareAt l at ≡ x
+share-from : (l : List ℕ) (at : ℕ) (x : Share) → figuresAt l at (length (shareFigures x)) ≡ shareFigures x → shareAt l at ≡ x
 share-from l at x e =
     let third : at + secondPlace ≡ at + figureWidth + figureWidth = omega arith in
     λ i. record {
@@ -75,7 +75,12 @@ shares-from : (xs : List Share) (l : List ℕ) (at : ℕ) → figuresAt l at (le
 shares-from [] l at e = refl
 shares-from (x ∷ xs) l at e =
     let next : at + shareLength ≡ at + figureWidth + figureWidth + figureWidth = omega arith in
-    simp (share-from l at x (ap (take 3) e), next, shares-from xs l (at + figureWidth + figureWidth + figureWidth) (ap (drop 3) e))
+    simp (
+      share-from l at x (ap (take (length (shareFigures x))) e),
+      next,
+      shares-from xs l (at + figureWidth + figureWidth + figureWidth)
+          (ap (drop (length (shareFigures x))) e),
+    )
 
 -- a line of any figures with as many shares as a line has
 module _ (f : Figures) (four : length (f .shares) ≡ shareCount) where
@@ -130,7 +135,8 @@ module _ (k : ℕ) (c : List ℕ) where
     shares-back : sharesIn (lineFor k c) ≡ quoteOf c .shares
     unfolding sharesIn figuresFor figuresOf
     shares-back =
-        rw (quote-fits c .four) at (shares-from (quoteOf c .shares) (lineFor k c) headerLength (ap (drop 3) line-back))
+        rw (quote-fits c .four) at (shares-from (quoteOf c .shares) (lineFor k c) headerLength
+        (ap (drop (length (headerFigures (figuresFor k c)))) line-back))
 
     pub number-back : numberIn (lineFor k c) ≡ k
     unfolding numberIn figuresFor figuresOf
