@@ -1,18 +1,17 @@
 -- Definitions for the contracts of private functions: what the code knows of a register that it went along, of a line that it
 -- looked for, and of a line's end that it looked for. Nothing here has to be believed. Assumes nothing.
-use Prim.Native.Nat.{ℕ, _≤_, _<_}
-use mathlib.Core.Bool.{Bool, true, false}
+use Prim.Native.Nat.{ℕ, _*_, _/_, _≤_, _<_}
+use mathlib.Core.Bool.{Bool, true, false, cond}
 use mathlib.Core.List.{List}
 use mathlib.Core.Path.{_≡_}
-use lib.Dec.{eqb}
+use lib.Dec.{ltb, eqb}
 use lib.ListN.{length, getD}
 use Rattle.calendar.specs.Tests.{any}
-use Rattle.split.specs.Frame.{numberAt}
 use Rattle.register.specs.declared.answers.Checked.{Checked}
+use Rattle.register.specs.declared.answers.Located.{Located}
 use Rattle.register.specs.declared.checking.Scanned.{Scanned}
-use Rattle.register.specs.Line.{figureWidth}
-use Rattle.register.specs.Layout.{Register, usedLines}
-use Rattle.register.specs.Check.{nextNumber, checkOf}
+use Rattle.register.specs.Layout.{Register, Layout, lengthOf, usedLines, lineLayout}
+use Rattle.register.specs.Check.{nextNumber, checkLines, checkOf}
 use Rattle.register.specs.Find.{lastPlace}
 
 -- what going along lines finds: what the check found, and where that is none the number that a next line must have
@@ -25,14 +24,24 @@ pub record Known (r : Register) (k : Scanned) : Type 0 where
   pub checked : k .refusal ≡ checkOf r .refusal
   pub numbered : k .refusal ≡ 0 → k .next ≡ nextNumber (usedLines r)
 
--- the figure at a place of a line has a value
-unfoldable pub hasFigure : ℕ → ℕ → List ℕ → Bool
-hasFigure place value l = eqb (numberAt l place figureWidth) value
+-- lines that the check finds sound
+abbrev pub SoundLines : List (List ℕ) → Type 0
+SoundLines ls = checkLines 0 0 ls .refusal ≡ 0
 
--- the place of the last of the lines that passes a test, or their count where none does
+-- the place of the last of the lines that passes a test, or their count or more where none does
 pub record LastAt (f : List ℕ → Bool) (ls : List (List ℕ)) (place : ℕ) : Type 0 where
   pub found : place < length ls → (any f ls ≡ true) × (lastPlace f ls ≡ place)
   pub absent : length ls ≤ place → any f ls ≡ false
+
+-- where the line at a place is, and 14 where the place is behind the used lines
+unfoldable pub placedBy : Layout → ℕ → ℕ → Located
+placedBy y used place =
+    cond (ltb place (used / lengthOf y))
+    (record { refusal = 0; offset = place * lengthOf y; length = lengthOf y })
+    (record { refusal = 14; offset = 0; length = 0 })
+
+abbrev pub placed : ℕ → ℕ → Located
+placed used place = placedBy lineLayout used place
 
 -- some character is LF
 unfoldable pub hasNewline : List ℕ → Bool

@@ -6,21 +6,32 @@ use crate::layout::LINE_LENGTH;
 use crate::layout::MEMBER_AT;
 ghost use mathlib.Core.Path.{_≡_};
 ghost use Prim.Native.Nat.{_+_, _*_, _≤_};
-ghost use lib.ListN.{length};
-ghost use Rattle.register.specs.Line.{figureWidth, textLength};
+ghost use lib.ListN.{length, take, drop};
 ghost use Rattle.register.specs.Layout.{lent, lineLayout, lineLength, cutLines};
 ghost use Rattle.register.specs.Find.{hasNumber, hasMember, findLine, locate};
-ghost use Rattle.register.specs.Scan.{hasFigure, LastAt};
+ghost use Rattle.register.specs.Scan.{placed, SoundLines, LastAt};
 
-// The place of the last of n lines whose figure at an offset is the value; n where there is none.
-fn last_with(register: &[u8], n: usize, offset: usize, value: u32) -> usize
-    requires { ⌜ (n * lineLength ≤ length (now register)) × (offset + figureWidth ≤ textLength) ⌝ }
-    ensures { λ r. ⌜ LastAt (hasFigure offset value) (cutLines lineLayout n (now (register .entry))) r ⌝ }
+// The place of a number among n sound lines, which rise by one from the first's; n or more where it is not there.
+fn place_of_number(register: &[u8], n: usize, number: u32) -> usize
+    requires { ⌜ SoundLines (cutLines lineLayout n (now register)) ⌝ }
+    ensures { λ r. ⌜ LastAt (hasNumber number) (cutLines lineLayout n (now (register .entry))) r ⌝ }
+{
+    let first = split::number_at(register, 0);
+    if number < first {
+        return n;
+    }
+    (number - first) as usize
+}
+
+// The place of the last of n lines with a member; n where there is none.
+fn last_of_member(register: &[u8], n: usize, member: u32) -> usize
+    requires { ⌜ n * lineLength ≤ length (now register) ⌝ }
+    ensures { λ r. ⌜ LastAt (hasMember member) (cutLines lineLayout n (now (register .entry))) r ⌝ }
 {
     let mut i = n;
     while 0 < i {
         i -= 1;
-        if split::number_at(register, i * LINE_LENGTH + offset) == value {
+        if split::number_at(register, i * LINE_LENGTH + MEMBER_AT) == member {
             return i;
         }
     }
@@ -37,17 +48,11 @@ fn not_found(refusal: u8) -> Located
     }
 }
 
-// Where the last line with the value is, after the check.
-fn located(register: &[u8], used: usize, offset: usize, value: u32) -> Located
-    requires { ⌜ offset + figureWidth ≤ textLength ⌝ }
-    ensures { λ r. ⌜ r ≡ locate (hasFigure offset value) (lent (now (register .entry)) used) ⌝ }
+// Where the line at a place is; 14 where the place is behind the used lines.
+fn line_at(used: usize, place: usize) -> Located
+    ensures { λ r. ⌜ r ≡ placed used place ⌝ }
 {
-    let checked = checking::check(register, used);
-    if checked.refusal != 0 {
-        return not_found(11);
-    }
     let n = used / LINE_LENGTH;
-    let place = last_with(register, n, offset, value);
     if n <= place {
         return not_found(14);
     }
@@ -58,41 +63,52 @@ fn located(register: &[u8], used: usize, offset: usize, value: u32) -> Located
     }
 }
 
-// The line there, as its own bytes of the register; empty under a refusal.
-fn found_line<'a>(register: &'a [u8], used: usize, offset: usize, value: u32) -> &'a [u8]
-    requires { ⌜ offset + figureWidth ≤ textLength ⌝ }
-    ensures { λ r. ⌜ now r ≡ findLine (hasFigure offset value) (lent (now (register .entry)) used) ⌝ }
+// The bytes where a line is.
+fn bytes_at<'a>(register: &'a [u8], at: Located) -> &'a [u8]
+    requires { ⌜ at .offset + at .length ≤ length (now register) ⌝ }
+    ensures { λ r. ⌜ now r ≡ take (at .length) (drop (at .offset) (now (register .entry))) ⌝ }
 {
-    let at = located(register, used, offset, value);
     let start = at.offset;
     let end = start + at.length;
     &register[start..end]
+}
+
+// The refusal, 11, 14 or 0, and where the bytes of the line with a number are.
+pub fn locate_number(register: &[u8], used: usize, number: u32) -> Located
+    ensures { λ r. ⌜ r ≡ locate (hasNumber number) (lent (now (register .entry)) used) ⌝ }
+{
+    let checked = checking::check(register, used);
+    if checked.refusal != 0 {
+        return not_found(11);
+    }
+    let place = place_of_number(register, used / LINE_LENGTH, number);
+    line_at(used, place)
 }
 
 // The line with a number, as its own bytes of the register; empty under a refusal.
 pub fn find_number<'a>(register: &'a [u8], used: usize, number: u32) -> &'a [u8]
     ensures { λ r. ⌜ now r ≡ findLine (hasNumber number) (lent (now (register .entry)) used) ⌝ }
 {
-    found_line(register, used, 0, number)
+    let at = locate_number(register, used, number);
+    bytes_at(register, at)
 }
 
-// The refusal of the same call, 11, 14 or 0, and where the line's bytes are.
-pub fn locate_number(register: &[u8], used: usize, number: u32) -> Located
-    ensures { λ r. ⌜ r ≡ locate (hasNumber number) (lent (now (register .entry)) used) ⌝ }
+// The refusal, 11, 14 or 0, and where the bytes of a member's newest line are.
+pub fn locate_member(register: &[u8], used: usize, member: u32) -> Located
+    ensures { λ r. ⌜ r ≡ locate (hasMember member) (lent (now (register .entry)) used) ⌝ }
 {
-    located(register, used, 0, number)
+    let checked = checking::check(register, used);
+    if checked.refusal != 0 {
+        return not_found(11);
+    }
+    let place = last_of_member(register, used / LINE_LENGTH, member);
+    line_at(used, place)
 }
 
 // A member's newest line, as its own bytes of the register; empty under a refusal.
 pub fn find_member<'a>(register: &'a [u8], used: usize, member: u32) -> &'a [u8]
     ensures { λ r. ⌜ now r ≡ findLine (hasMember member) (lent (now (register .entry)) used) ⌝ }
 {
-    found_line(register, used, MEMBER_AT, member)
-}
-
-// The refusal of the same call, 11, 14 or 0, and where the line's bytes are.
-pub fn locate_member(register: &[u8], used: usize, member: u32) -> Located
-    ensures { λ r. ⌜ r ≡ locate (hasMember member) (lent (now (register .entry)) used) ⌝ }
-{
-    located(register, used, MEMBER_AT, member)
+    let at = locate_member(register, used, member);
+    bytes_at(register, at)
 }

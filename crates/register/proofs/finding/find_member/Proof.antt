@@ -1,17 +1,16 @@
--- `find_member` gives the line found by the member's figure, which is what `memberIn` reads.
-use native.Mathlib.Omega.{arith}
-use Rattle.register.specs.Line.{textLength, memberIn}
-use Rattle.register.specs.Scan.{hasFigure}
+-- `find_member` gives the bytes where the line is located, which are the line found.
+use mathlib.Core.Path.{_∙_}
+use borrow.Author.Needs.{needs}
+use Rattle.register.specs.Layout.{lineLayout}
+use Rattle.register.proofs.FindLaws.{located-within}
 use Rattle.register.proofs.finding.find_member.Statement.{statement}
 use Rattle.register.proofs.finding.find_member.Tie as tie
 
-found-line-requires : tie.Need-found-line-requires
-unfolding textLength
-found-line-requires c κs = omega arith
+bytes-at-requires : tie.Need-bytes-at-requires
+bytes-at-requires c κs = located-within lineLayout _ _ _ (c .locate-member .ensures) .inside
 
 returns : tie.Need-returns
-unfolding hasFigure memberIn
-returns c = c .found-line .ensures
+returns c = c .bytes-at .ensures ∙ located-within lineLayout _ _ _ (c .before .locate-member .ensures) .line
 
 pub find-member-spec : {M : Type 1} → statement M
-find-member-spec = tie.close (tie.spec found-line-requires returns)
+find-member-spec = tie.close (tie.spec (search needs) bytes-at-requires returns)

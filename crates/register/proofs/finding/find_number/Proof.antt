@@ -1,17 +1,16 @@
--- `find_number` gives the line found by the number's figure, which is what `numberIn` reads.
-use native.Mathlib.Omega.{arith}
-use Rattle.register.specs.Line.{textLength, numberIn}
-use Rattle.register.specs.Scan.{hasFigure}
+-- `find_number` gives the bytes where the line is located, which are the line found.
+use mathlib.Core.Path.{_∙_}
+use borrow.Author.Needs.{needs}
+use Rattle.register.specs.Layout.{lineLayout}
+use Rattle.register.proofs.FindLaws.{located-within}
 use Rattle.register.proofs.finding.find_number.Statement.{statement}
 use Rattle.register.proofs.finding.find_number.Tie as tie
 
-found-line-requires : tie.Need-found-line-requires
-unfolding textLength
-found-line-requires c κs = omega arith
+bytes-at-requires : tie.Need-bytes-at-requires
+bytes-at-requires c κs = located-within lineLayout _ _ _ (c .locate-number .ensures) .inside
 
 returns : tie.Need-returns
-unfolding hasFigure numberIn
-returns c = c .found-line .ensures
+returns c = c .bytes-at .ensures ∙ located-within lineLayout _ _ _ (c .before .locate-number .ensures) .line
 
 pub find-number-spec : {M : Type 1} → statement M
-find-number-spec = tie.close (tie.spec found-line-requires returns)
+find-number-spec = tie.close (tie.spec (search needs) bytes-at-requires returns)

@@ -1,17 +1,29 @@
--- `locate_member` locates the line by the member's figure, which is what `memberIn` reads.
+-- `locate_member` is the definition `locate`: by what the check gave, and then by the place of the member's last line.
+use mathlib.Core.Path.{sym, _∙_}
 use native.Mathlib.Omega.{arith}
-use Rattle.register.specs.Line.{textLength, memberIn}
-use Rattle.register.specs.Scan.{hasFigure}
+use borrow.Author.Needs.{needs}
+use Rattle.register.specs.Line.{textLength}
+use Rattle.register.specs.Layout.{lineLayout}
+use Rattle.register.proofs.FindLoop.{unchecked, lines-sound, answered}
 use Rattle.register.proofs.finding.locate_member.Statement.{statement}
 use Rattle.register.proofs.finding.locate_member.Tie as tie
 
-located-requires : tie.Need-located-requires
-unfolding textLength
-located-requires c κs = omega arith
-
 returns : tie.Need-returns
-unfolding hasFigure memberIn
-returns c = c .located .ensures
+returns c = c .not-found .ensures ∙ sym (unchecked lineLayout _ _ (c .before .before .before .check .ensures) _ (c .before .if1 .taken))
+
+last-of-member-requires : tie.Need-last-of-member-requires
+unfolding textLength
+last-of-member-requires c κs =
+    omega (arith, lines-sound lineLayout _ _ (c .before .before .check .ensures) (c .if1 .left) .0)
+
+returns-2 : tie.Need-returns-2
+unfolding textLength
+returns-2 c =
+    let k = c .before .before in
+    c .line-at .ensures
+    ∙ sym (answered lineLayout _ _ (k .before .before .check .ensures) (k .if1 .left) _ _ (c .before .last-of-member .ensures))
 
 pub locate-member-spec : {M : Type 1} → statement M
-locate-member-spec = tie.close (tie.spec located-requires returns)
+locate-member-spec =
+    tie.close
+    (tie.spec (search needs) (search needs) returns last-of-member-requires (search needs) returns-2)
