@@ -1,8 +1,9 @@
 -- The check of a register, for any layout: the fault of a line by the first bad character, the number and the late test; one
--- more line behind lines that check sound; and the numbers of lines that check sound, which rise from the first by one.
+-- more line behind lines that check sound; and lines that check sound, whose characters are good and whose numbers rise from
+-- the first by one.
 -- By induction on the characters and on the lines. Assumes nothing.
 use Prim.Native.Nat.{ℕ, zero, suc, _+_, _-_, _*_, _%_, _≤_, _<_}
-use mathlib.Core.Bool.{Bool, true, false, cond}
+use mathlib.Core.Bool.{Bool, true, false, cond, true≢false}
 use mathlib.Core.List.{List, [], _∷_, _++_}
 use mathlib.Core.Path.{_≡_, refl}
 use native.Mathlib.Decide.{decLt}
@@ -72,6 +73,21 @@ module _ (y : Layout) (l : List ℕ) where
         | no h ↦ let e : i ≡ place = omega arith in simp (e, bad)
       ]
 
+  -- and where it is behind some, they are good
+  first-good : (i n : ℕ) → i + n ≤ firstBad y l i n → (j : ℕ) → i ≤ j → j < i + n → badAt y l j ≡ false
+  unfolding firstBad
+  first-good i zero e j low high = absurd (omega arith)
+  first-good i (suc n) e j low high = go (badAt y l i) refl e (λ h g. first-good (suc i) n h j g (omega arith))
+    where
+      go : (b : Bool) → badAt y l i ≡ b → i + suc n ≤ cond b i (firstBad y l (suc i) n)
+          → (suc i + n ≤ firstBad y l (suc i) n → i < j → badAt y l j ≡ false) → badAt y l j ≡ false
+      go true here late rest = absurd (omega arith)
+      go false here late rest =
+          elim (decLt i j) [
+            | yes h ↦ rest (omega arith) h
+            | no h ↦ let e : j ≡ i = omega arith in rw e here
+          ]
+
   module _ (wide : figureWidth ≤ y .text) (expected : ℕ) where
     -- a line whose number has good digits and is wrong
     pub fault-number : Good figureWidth → wrongNumber expected (numberIn l) ≡ true → lineFault y expected l ≡ 0
@@ -108,18 +124,29 @@ module _ (y : Layout) (l : List ℕ) where
           le-ltb (lengthOf y) (lengthOf y) (omega arith),
         )
 
-    -- a line without a fault has a right number
-    faultless-right : ltb (lineFault y expected l) (lengthOf y) ≡ false → wrongNumber expected (numberIn l) ≡ false
+    -- a line without a fault has good characters and a right number
+    faultless : ltb (lineFault y expected l) (lengthOf y) ≡ false → Good (lengthOf y) × (wrongNumber expected (numberIn l) ≡ false)
     unfolding lineFault
-    faultless-right = go (ltb (firstBad y l 0 figureWidth) figureWidth) refl (wrongNumber expected (numberIn l)) refl
+    faultless = go (ltb (firstBad y l 0 figureWidth) figureWidth) refl (wrongNumber expected (numberIn l)) refl
+        (ltb (firstBad y l figureWidth (lengthOf y - figureWidth)) (lengthOf y)) refl
       where
         go : (b : Bool) → ltb (firstBad y l 0 figureWidth) figureWidth ≡ b → (w : Bool) → wrongNumber expected (numberIn l) ≡ w
-            → ltb (lineFault y expected l) (lengthOf y) ≡ false → w ≡ false
-        go true early w e fine =
+            → (d : Bool) → ltb (firstBad y l figureWidth (lengthOf y - figureWidth)) (lengthOf y) ≡ d
+            → ltb (lineFault y expected l) (lengthOf y) ≡ false → Good (lengthOf y) × (w ≡ false)
+        go true early w e d f fine =
             let low = ltb-true (firstBad y l 0 figureWidth) figureWidth early in
             absurd (omega (arith, ltb-false (firstBad y l 0 figureWidth) (lengthOf y) (simp early at fine)))
-        go false late true e fine = absurd (omega (arith, ltb-false 0 (lengthOf y) (simp (late, e) at fine)))
-        go false late false e fine = refl
+        go false late true e d f fine = absurd (omega (arith, ltb-false 0 (lengthOf y) (simp (late, e) at fine)))
+        go false late false e true f fine = absurd (true≢false (simp (late, e, f) at fine))
+        go false late false e false f fine = (
+          λ j h.
+              elim (decLt j figureWidth) [
+                | yes i ↦ first-good 0 figureWidth (ltb-false _ figureWidth late) j (omega arith) i
+                | no i ↦
+                    first-good figureWidth (lengthOf y - figureWidth) (omega (arith, ltb-false _ (lengthOf y) f)) j (omega arith) (omega arith)
+              ],
+          refl,
+        )
 
 module _ (y : Layout) where
   -- lines of which the first has no fault check as the rest does, and sound lines begin so
@@ -153,12 +180,20 @@ module _ (y : Layout) where
         omega (
           arith,
           right-same expected (numberIn l) some
-              (faultless-right y l wide expected (check-first l ls expected at good .0)),
+              (faultless y l wide expected (check-first l ls expected at good .0) .1),
         )
     rising (l ∷ ls) expected at (suc k) some good h =
         let first = check-first l ls expected at good in
-        let same = right-same expected (numberIn l) some (faultless-right y l wide expected (first .0)) in
+        let same = right-same expected (numberIn l) some (faultless y l wide expected (first .0) .1) in
         omega (arith, rising ls (following (numberIn l)) (at + lengthOf y) k (omega arith) (first .1) (omega arith))
+
+    -- the characters of each are good
+    pub sound-good : (ls : List (List ℕ)) (expected at k : ℕ) → checkLinesBy y expected at ls .refusal ≡ 0 → k < length ls
+        → Good y (getD ls k []) (lengthOf y)
+    sound-good [] expected at k good h = absurd (omega arith)
+    sound-good (l ∷ ls) expected at zero good h = faultless y l wide expected (check-first l ls expected at good .0) .0
+    sound-good (l ∷ ls) expected at (suc k) good h =
+        sound-good ls (following (numberIn l)) (at + lengthOf y) k (check-first l ls expected at good .1) (omega arith)
 
     -- so a sound register's line k has the first line's number plus k
     pub sound-number : (ls : List (List ℕ)) (at k : ℕ) → checkLinesBy y 0 at ls .refusal ≡ 0 → k < length ls

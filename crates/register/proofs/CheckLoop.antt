@@ -5,7 +5,7 @@ use mathlib.Core.Bool.{Bool, true, false, cond, not, _&&_}
 use mathlib.Core.List.{List, []}
 use mathlib.Core.Path.{_≡_, refl, sym, _∙_, ap}
 use native.Mathlib.Decide.{decLt}
-use native.Mathlib.Nat.{add-zero, suc-mul, zero-mul, div-add-mod'}
+use native.Mathlib.Nat.{add-assoc, add-zero, suc-mul, zero-mul, div-add-mod'}
 use native.Mathlib.Omega.{arith}
 use lib.Dec.{ltb, eqb}
 use lib.ListN.{length, getD, take, drop, length-take, length-drop}
@@ -21,7 +21,7 @@ use Rattle.register.specs.declared.checking.Scanned.{Scanned}
 use Rattle.register.specs.Line.{figureWidth, numberPlace, numberIn}
 use Rattle.register.specs.Layout.{Layout, lent, lengthOf, cutLines, usedLinesBy}
 use Rattle.register.specs.Check.{following, numberAfter, wrongNumber, sound, unsound, badAt, lineFault, checkLinesBy}
-use Rattle.register.specs.Scan.{ScannedAs}
+use Rattle.register.specs.Scan.{ScannedAs, DigitsAt}
 use Rattle.register.proofs.LayoutLaws.{lineAt}
 use Rattle.register.proofs.CheckLaws.{Good, fault-number, fault-character, fault-late}
 
@@ -80,6 +80,12 @@ module _ (y : Layout) (wide : figureWidth ≤ y .text) (s : List ℕ) where
             in
             simp (le-ltb place (y .text) (omega arith), here)
       ]
+
+  -- good characters before the newline's place are digits
+  pub good-digits : (at o n : ℕ) → o + n ≤ y .text → Good y (lineAt y s at) (o + n) → DigitsAt s (at + o) n
+  good-digits at o n text good j h =
+      rw (← add-assoc at o j) at
+      (simp (lt-ltb (o + j) (y .text) (omega arith)) at (sym (line-character at (o + j) (omega arith)) ∙ good (o + j) (omega arith)))
 
   -- the lines from an offset on answer for all: what the check finds in them, and the number after them
   pub record Left (used at expected : ℕ) : Type 0 where

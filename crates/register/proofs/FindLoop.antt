@@ -3,26 +3,28 @@
 -- what a find answers by a place. Assumes nothing.
 use Prim.Native.Nat.{ℕ, suc, _+_, _-_, _*_, _/_, _≤_, _<_}
 use mathlib.Core.Bool.{Bool, true, false, or-true, or-false}
-use mathlib.Core.List.{List, [], _∷_, _++_}
+use mathlib.Core.List.{List, [], _∷_, _++_, append-nil}
 use mathlib.Core.Path.{_≡_, sym, _∙_, ap}
 use native.Mathlib.Decide.{decLt}
-use native.Mathlib.Nat.{zero-mul}
+use native.Mathlib.Nat.{zero-add, zero-mul}
 use native.Mathlib.Omega.{arith}
+use lib.Dec.{eqb}
 use lib.ListN.{length, getD}
 use borrow.Author.Tests.{lt-ltb, le-ltb}
 use Rattle.calendar.specs.Tests.{any}
 use Rattle.calendar.proofs.TestsLaws.{any-snoc}
-use Rattle.split.specs.Frame.{numberAt}
-use Rattle.split.proofs.HexLaws.{number-part}
+use Rattle.split.specs.Frame.{noDigit, numberAt, hexText}
+use Rattle.split.proofs.FrameLaws.{digit-known}
+use Rattle.split.proofs.HexLaws.{hex-length, hex-good, hex-back, number-same, number-other, number-part}
 use Rattle.register.specs.Line.{figureWidth, memberPlace, numberIn, memberIn}
 use Rattle.register.specs.declared.answers.Checked.{Checked}
 use Rattle.register.specs.Layout.{Register, Layout, lengthOf, cutLines, usedLinesBy}
 use Rattle.register.specs.Check.{checkLinesBy, checkBy}
-use Rattle.register.specs.Find.{lastPlace, locateBy}
-use Rattle.register.specs.Scan.{LastAt, placedBy}
+use Rattle.register.specs.Find.{lastPlace, hasMember, locateBy}
+use Rattle.register.specs.Scan.{DigitsAt, LastAt, placedBy}
 use Rattle.register.proofs.LayoutLaws.{lineAt, cut-count, cut-at, cut-snoc}
-use Rattle.register.proofs.CheckLaws.{check-sound}
-use Rattle.register.proofs.CheckLoop.{line-number}
+use Rattle.register.proofs.CheckLaws.{sound-good, check-sound}
+use Rattle.register.proofs.CheckLoop.{line-number, good-digits}
 use Rattle.register.proofs.FindLaws.{place-snoc, locate-unsound, locate-absent, locate-found}
 
 -- what n lines answer, the first i of them answer
@@ -64,11 +66,51 @@ module _ (y : Layout) (f : List ℕ → Bool) (s : List ℕ) (n i : ℕ) (same :
         absent = λ _. same .some ∙ simp e;
       }
 
--- the member of the line at an offset, read in the register
-pub line-member : (y : Layout) (s : List ℕ) (at : ℕ) → memberPlace + figureWidth ≤ y .text
-    → memberIn (lineAt y s at) ≡ numberAt s (at + memberPlace) figureWidth
-unfolding memberIn
-line-member y s at inside = number-part s (lengthOf y) at memberPlace figureWidth (omega arith)
+-- a member that is written: its digits, and what comparing them with a line's tells of the line
+module _ (digits : List ℕ) (member : ℕ) (written : digits ≡ hexText figureWidth member) where
+  pub member-digits : DigitsAt digits 0 figureWidth
+  member-digits j h =
+      rw (zero-add j, written)
+      (digit-known (hexText figureWidth member) j (hex-good figureWidth member) (omega (arith, hex-length figureWidth member)))
+
+  member-back : member < 4294967296 → numberAt digits 0 figureWidth ≡ member
+  member-back low = rw (written, ← append-nil (hexText figureWidth member)) (hex-back [] [] figureWidth member low)
+
+  pub member-told : (y : Layout) (s : List ℕ) (at : ℕ) (told : Bool) → memberPlace + figureWidth ≤ y .text → member < 4294967296
+      → told ≡ eqb (numberAt s (at + memberPlace) figureWidth) (numberAt digits 0 figureWidth)
+      → hasMember member (lineAt y s at) ≡ told
+  unfolding memberIn
+  member-told y s at told inside low e =
+      ap (λ (x : ℕ). eqb x member) (number-part s (lengthOf y) at memberPlace figureWidth (omega arith))
+      ∙ ap (eqb (numberAt s (at + memberPlace) figureWidth)) (sym (member-back low)) ∙ sym e
+
+-- the member's characters in a line among sound ones are digits
+pub line-digits : (y : Layout) (wide : figureWidth ≤ y .text) (s : List ℕ) (n k : ℕ) → memberPlace + figureWidth ≤ y .text
+    → checkLinesBy y 0 0 (cutLines y n s) .refusal ≡ 0 → k < n → DigitsAt s (k * lengthOf y + memberPlace) figureWidth
+line-digits y wide s n k inside sound h =
+    good-digits y wide s (k * lengthOf y) memberPlace figureWidth inside
+    (λ j i. rw (cut-at y n s k h) at (sound-good y wide (cutLines y n s) 0 0 k sound (omega (arith, cut-count y n s))) j (omega arith))
+
+-- a figure of a register compared with digits from the last on: what all tell, the first i tell
+module _ (s : List ℕ) (at : ℕ) (t : List ℕ) where
+  abbrev pub sameFigure : ℕ → Bool
+  sameFigure i = eqb (numberAt s at i) (numberAt t 0 i)
+
+  pub figure-same : (whole : Bool) (i : ℕ) → 0 < i → whole ≡ sameFigure i → getD s (at + (i - 1)) 0 ≡ getD t (i - 1) 0
+      → whole ≡ sameFigure (i - 1)
+  figure-same whole i h rest e =
+      let next : i ≡ suc (i - 1) = omega arith in
+      rest ∙ ap sameFigure next ∙ number-same s t at 0 (i - 1) (e ∙ ap (λ (k : ℕ). getD t k 0) (sym (zero-add (i - 1))))
+
+  pub figure-other : (whole : Bool) (i : ℕ) → 0 < i → whole ≡ sameFigure i → noDigit (getD s (at + (i - 1)) 0) ≡ false
+      → noDigit (getD t (0 + (i - 1)) 0) ≡ false → (getD s (at + (i - 1)) 0 ≡ getD t (i - 1) 0 → ⊥) → whole ≡ false
+  figure-other whole i h rest known known₂ other =
+      let next : i ≡ suc (i - 1) = omega arith in
+      rest ∙ ap sameFigure next ∙ number-other s t at 0 (i - 1) known known₂ (rw (zero-add (i - 1)) other)
+
+  pub figure-all : (whole : Bool) (i : ℕ) → i ≤ 0 → whole ≡ sameFigure i → whole ≡ true
+  unfolding numberAt
+  figure-all whole i h rest = let e : i ≡ 0 = omega arith in rest ∙ ap sameFigure e
 
 -- the first of the lines cut begins the register
 pub first-number : (y : Layout) (wide : figureWidth ≤ y .text) (s : List ℕ) (n : ℕ) → 0 < length (cutLines y n s)

@@ -48,6 +48,13 @@ digits-end l whole at i left h inv =
     let e : i ≡ 0 = omega arith in
     ap (sets l at) (sym (hex-none left)) ∙ ap (λ (n : ℕ). sets l at (hexText n left)) (sym e) ∙ inv
 
+-- a figure written over as many characters as it has digits
+pub figure-written : (l t : List ℕ) (x : ℕ) → length l ≡ figureWidth → t ≡ sets l 0 (hexText figureWidth x) → t ≡ hexText figureWidth x
+figure-written l t x full written =
+    let size = hex-length figureWidth x in
+    let over : length l ≤ 0 + length (hexText figureWidth x) = omega arith in
+    written ∙ sets-eq (hexText figureWidth x) l 0 (omega arith) ∙ rw (drop-of-length-le l over, append-nil)
+
 -- three figures written one after the other
 pub three-written : (l l₁ l₂ l₃ : List ℕ) (at at₁ at₂ x y z : ℕ) → at₁ ≡ at + figureWidth → at₂ ≡ at₁ + figureWidth
     → l₁ ≡ sets l at (hexText figureWidth x) → l₂ ≡ sets l₁ at₁ (hexText figureWidth y)

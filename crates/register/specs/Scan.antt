@@ -1,12 +1,13 @@
 -- Definitions for the contracts of private functions: what the code knows of a register that it went along, of a line that it
 -- looked for, and of a line's end that it looked for. Nothing here has to be believed. Assumes nothing.
-use Prim.Native.Nat.{ℕ, _*_, _/_, _≤_, _<_}
+use Prim.Native.Nat.{ℕ, _+_, _*_, _/_, _≤_, _<_}
 use mathlib.Core.Bool.{Bool, true, false, cond}
 use mathlib.Core.List.{List}
 use mathlib.Core.Path.{_≡_}
 use lib.Dec.{ltb, eqb}
 use lib.ListN.{length, getD}
 use Rattle.calendar.specs.Tests.{any}
+use Rattle.split.specs.Frame.{noDigit}
 use Rattle.register.specs.declared.answers.Checked.{Checked}
 use Rattle.register.specs.declared.answers.Located.{Located}
 use Rattle.register.specs.declared.checking.Scanned.{Scanned}
@@ -23,6 +24,10 @@ pub record ScannedAs (found : Checked) (ls : List (List ℕ)) (k : Scanned) : Ty
 pub record Known (r : Register) (k : Scanned) : Type 0 where
   pub checked : k .refusal ≡ checkOf r .refusal
   pub numbered : k .refusal ≡ 0 → k .next ≡ nextNumber (usedLines r)
+
+-- n characters from a place on are digits
+abbrev pub DigitsAt : List ℕ → ℕ → ℕ → Type 0
+DigitsAt s at n = (j : ℕ) → j < n → noDigit (getD s (at + j) 0) ≡ false
 
 -- lines that the check finds sound
 abbrev pub SoundLines : List (List ℕ) → Type 0

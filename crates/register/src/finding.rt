@@ -2,16 +2,21 @@
 // one beside it the refusal and where they are.
 use crate::answers::Located;
 use crate::checking;
+use crate::layout;
+use crate::layout::FIGURE_WIDTH;
 use crate::layout::LINE_LENGTH;
 use crate::layout::MEMBER_AT;
 ghost use mathlib.Core.Path.{_≡_};
 ghost use Prim.Native.Nat.{_+_, _*_, _≤_};
+ghost use lib.Dec.{eqb};
 ghost use lib.ListN.{length, take, drop};
+ghost use Rattle.split.specs.Frame.{numberAt};
+ghost use Rattle.register.specs.Line.{figureWidth};
 ghost use Rattle.register.specs.Layout.{lent, lineLayout, lineLength, cutLines};
 ghost use Rattle.register.specs.Find.{hasNumber, hasMember, findLine, locate};
-ghost use Rattle.register.specs.Scan.{placed, SoundLines, LastAt};
+ghost use Rattle.register.specs.Scan.{DigitsAt, SoundLines, LastAt, placed};
 
-// The place of a number among n sound lines, which rise by one from the first's; n or more where it is not there.
+// The place of a number among n sound lines, whose numbers rise by one from the first's; n or more where it is not there.
 fn place_of_number(register: &[u8], n: usize, number: u32) -> usize
     requires { ⌜ SoundLines (cutLines lineLayout n (now register)) ⌝ }
     ensures { λ r. ⌜ LastAt (hasNumber number) (cutLines lineLayout n (now (register .entry))) r ⌝ }
@@ -23,15 +28,32 @@ fn place_of_number(register: &[u8], n: usize, number: u32) -> usize
     (number - first) as usize
 }
 
-// The place of the last of n lines with a member; n where there is none.
+// Whether the digits at a place of a register are these. They are compared from the last, where figures differ most.
+fn has_figure(register: &[u8], at: usize, digits: &[u8; FIGURE_WIDTH]) -> bool
+    requires { ⌜ (at + figureWidth ≤ length (now register)) × DigitsAt (now register) at figureWidth × DigitsAt (now digits) 0 figureWidth ⌝ }
+    ensures { λ r. ⌜ r ≡ eqb (numberAt (now (register .entry)) at figureWidth) (numberAt (now (digits .entry)) 0 figureWidth) ⌝ }
+{
+    let mut i = FIGURE_WIDTH;
+    while 0 < i {
+        i -= 1;
+        if register[at + i] != digits[i] {
+            return false;
+        }
+    }
+    true
+}
+
+// The place of the last of n sound lines with a member; n where there is none.
 fn last_of_member(register: &[u8], n: usize, member: u32) -> usize
-    requires { ⌜ n * lineLength ≤ length (now register) ⌝ }
+    requires { ⌜ (n * lineLength ≤ length (now register)) × SoundLines (cutLines lineLayout n (now register)) ⌝ }
     ensures { λ r. ⌜ LastAt (hasMember member) (cutLines lineLayout n (now (register .entry))) r ⌝ }
 {
+    let mut digits = [0u8; FIGURE_WIDTH];
+    layout::write_figure(&mut digits, 0, member);
     let mut i = n;
     while 0 < i {
         i -= 1;
-        if split::number_at(register, i * LINE_LENGTH + MEMBER_AT) == member {
+        if has_figure(register, i * LINE_LENGTH + MEMBER_AT, &digits) {
             return i;
         }
     }

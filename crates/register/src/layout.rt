@@ -44,7 +44,7 @@ fn hex_character(digit: u32) -> u8
 }
 
 // Writes a figure's digits from a place on.
-fn write_figure(line: &mut [u8], at: usize, value: u32)
+pub fn write_figure(line: &mut [u8], at: usize, value: u32)
     requires { ⌜ at + figureWidth ≤ length (now line) ⌝ }
     ensures { λ _. ⌜ now (line .exit) ≡ sets (now (line .entry)) at (hexText figureWidth value) ⌝ }
 {

@@ -14,7 +14,8 @@ returns c = c .not-found .ensures ∙ sym (unchecked lineLayout _ _ (c .before .
 last-of-member-requires : tie.Need-last-of-member-requires
 unfolding textLength
 last-of-member-requires c κs =
-    omega (arith, lines-sound lineLayout _ _ (c .before .before .check .ensures) (c .if1 .left) .0)
+    let sound = lines-sound lineLayout _ _ (c .before .before .check .ensures) (c .if1 .left) in
+    (omega (arith, sound .0), sound .1)
 
 returns-2 : tie.Need-returns-2
 unfolding textLength
