@@ -1,11 +1,12 @@
 -- The check by loops, for any layout: a line is a part of the register and is read there; the lines from an offset on answer for
 -- all; and a turn stops at a wrong number or a bad character, or goes on behind a line without a fault. Assumes nothing.
-use Prim.Native.Nat.{ℕ, zero, suc, _+_, _-_, _*_, _/_, _%_, _≤_, _<_}
+use Prim.Native.Nat.{ℕ, zero, suc, _+_, _-_, _*_, _/_, _%_, _^_, _≤_, _<_}
 use mathlib.Core.Bool.{Bool, true, false, cond, not, _&&_}
 use mathlib.Core.List.{List, []}
 use mathlib.Core.Path.{_≡_, refl, sym, _∙_, ap}
 use native.Mathlib.Decide.{decLt}
-use native.Mathlib.Nat.{add-assoc, add-zero, suc-mul, zero-mul, div-add-mod'}
+use native.Mathlib.Nat.{add-assoc, add-zero, suc-mul, zero-mul, div-add-mod', pow-suc, pow-le-pow-right, lt-of-lt-of-le}
+use native.Mathlib.Numerals.{add-one}
 use native.Mathlib.Omega.{arith}
 use lib.Dec.{ltb, eqb}
 use lib.ListN.{length, getD, take, drop, length-take, length-drop}
@@ -13,7 +14,7 @@ use lib.Seq.{getD-take, getD-drop, drop-drop}
 use borrow.Author.Count.{below-more}
 use borrow.Author.Tests.{lt-ltb, le-ltb, eq-eqb, not-true}
 use Rattle.calendar.proofs.TestsLaws.{and-left, and-right}
-use Rattle.split.specs.Frame.{noDigit, badCharacter, numberAt}
+use Rattle.split.specs.Frame.{hexValue, noDigit, badCharacter, digitAt, numberAt}
 use Rattle.split.proofs.FrameLaws.{digit-known}
 use Rattle.split.proofs.HexLaws.{number-part}
 use Rattle.register.specs.declared.answers.Checked.{Checked}
@@ -37,6 +38,34 @@ right-next place wrong passed right h =
       | yes past ↦ right past
       | no here ↦ simp (eq-eqb place figureWidth (omega arith)) at passed
     ]
+
+-- of a number's digits i are read: they make the value where they are digits, and it has room for the others
+pub record FigureRead (s : List ℕ) (at value i : ℕ) : Type 0 where
+  pub within : i ≤ figureWidth
+  pub low : value < 16 ^ i
+  pub number : DigitsAt s at i → value ≡ numberAt s at i
+
+pub read-none : {s : List ℕ} {at : ℕ} → FigureRead s at 0 0
+unfolding numberAt
+read-none = record { within = omega arith; low = omega arith; number = λ digits. refl }
+
+pub read-room : {s : List ℕ} {at value i : ℕ} → FigureRead s at value i → i < figureWidth → value < 268435456
+read-room {i = i} read h = lt-of-lt-of-le (read .low) (pow-le-pow-right {n = 16} (omega arith) {j = 7} (omega arith))
+
+pub read-more : {s : List ℕ} {at value i d : ℕ} → FigureRead s at value i → i < figureWidth
+    → (d < 16) × (noDigit (getD s (at + i) 0) ≡ false → d ≡ hexValue (getD s (at + i) 0) % 16)
+    → FigureRead s at (value * 16 + d) (i + 1)
+unfolding numberAt digitAt
+read-more {s} {at} {value} {i} {d} read h digit = record {
+  within = omega arith;
+  low = rw (add-one, pow-suc) (omega (arith, read .low));
+  number = λ digits.
+      rw (add-one, read .number (λ j g. digits j (omega arith)), digit .1 (digits i (omega arith)));
+}
+
+pub read-all : {s : List ℕ} {at value i : ℕ} → FigureRead s at value i → figureWidth ≤ i
+    → DigitsAt s at figureWidth → value ≡ numberAt s at figureWidth
+read-all {i = i} read h = let all : i ≡ figureWidth = omega arith in rw all at (read .number)
 
 module _ (y : Layout) (wide : figureWidth ≤ y .text) (s : List ℕ) where
   -- the number and the characters of the line at an offset, read in the register
@@ -137,43 +166,51 @@ module _ (y : Layout) (wide : figureWidth ≤ y .text) (s : List ℕ) where
           left .checked ∙ ap (λ (n : ℕ). checkLinesBy y expected at (cutLines y n (drop at s))) (one-left .1)
           ∙ simp (e, lt-ltb fault (lengthOf y) h)
 
-      pub stop-number : Good y (lineAt y s at) figureWidth → wrongNumber expected (numberAt s at figureWidth) ≡ true
-          → checkLinesBy y 0 0 (usedLinesBy y (lent s used)) ≡ unsound at
-      stop-number good wrong =
-          stop 0 (fault-number y (lineAt y s at) wide expected good (ap (wrongNumber expected) (line-number at) ∙ wrong)) (omega arith)
-          ∙ ap unsound (add-zero at)
+      module _ (number : ℕ) (read : DigitsAt s at figureWidth → number ≡ numberAt s at figureWidth) where
+        -- the number read is the line's where no character before a place past it is bad
+        known-number : (place : ℕ) → figureWidth ≤ place → Good y (lineAt y s at) place → numberIn (lineAt y s at) ≡ number
+        known-number place h good =
+            line-number at
+            ∙ sym (read (rw (add-zero at) at (good-digits at 0 figureWidth wide (λ j i. good j (omega arith)))))
 
-      pub stop-character : (place : ℕ) → place < lengthOf y → Good y (lineAt y s at) place
-          → badCharacterAt y place (getD s (at + place) 0) ≡ true
-          → (figureWidth ≤ place → wrongNumber expected (numberAt s at figureWidth) ≡ false)
-          → checkLinesBy y 0 0 (usedLinesBy y (lent s used)) ≡ unsound (at + place)
-      stop-character place h good b right =
-          stop place
-          (fault-character y (lineAt y s at) wide expected place h good (line-character at place h ∙ b)
-          (λ g. ap (wrongNumber expected) (line-number at) ∙ right g))
-          h
+        pub stop-number : Good y (lineAt y s at) figureWidth → wrongNumber expected number ≡ true
+            → checkLinesBy y 0 0 (usedLinesBy y (lent s used)) ≡ unsound at
+        stop-number good wrong =
+            stop 0
+            (fault-number y (lineAt y s at) wide expected good
+            (ap (wrongNumber expected) (known-number figureWidth (omega arith) good) ∙ wrong))
+            (omega arith)
+            ∙ ap unsound (add-zero at)
 
-      pub left-on : (number : ℕ) → number ≡ numberAt s at figureWidth → Good y (lineAt y s at) (lengthOf y)
-          → wrongNumber expected (numberAt s at figureWidth) ≡ false → y .late (lineAt y s at) ≡ false
-          → Left used (at + lengthOf y) (following number)
-      unfolding checkLinesBy numberAfter cutLines
-      left-on number read good right early =
-          let k = one-left in
-          let here : numberIn (lineAt y s at) ≡ number = line-number at ∙ sym read in
-          let faultless : lineFault y expected (lineAt y s at) ≡ lengthOf y =
-          fault-late y (lineAt y s at) wide expected good (ap (wrongNumber expected) (line-number at) ∙ right) ∙ simp early
-          in
-          record {
-            count = k .0;
-            filled = omega (arith, left .filled, ap (λ (n : ℕ). n * lengthOf y) (k .1), suc-mul (k .0) (lengthOf y));
-            checked =
-                left .checked ∙ ap (λ (n : ℕ). checkLinesBy y expected at (cutLines y n (drop at s))) (k .1)
-                ∙ simp (faultless, le-ltb (lengthOf y) (lengthOf y) (omega arith), here, drop-drop);
-            numbered =
-                left .numbered ∙ ap (λ (n : ℕ). numberAfter expected (cutLines y n (drop at s))) (k .1)
-                ∙ ap (λ (n : ℕ). numberAfter (following n) (cutLines y (k .0) (drop (lengthOf y) (drop at s)))) here
-                ∙ ap (λ (l : List ℕ). numberAfter (following number) (cutLines y (k .0) l)) (drop-drop (lengthOf y) at s);
-          }
+        pub stop-character : (place : ℕ) → place < lengthOf y → Good y (lineAt y s at) place
+            → badCharacterAt y place (getD s (at + place) 0) ≡ true → (figureWidth ≤ place → wrongNumber expected number ≡ false)
+            → checkLinesBy y 0 0 (usedLinesBy y (lent s used)) ≡ unsound (at + place)
+        stop-character place h good b right =
+            stop place
+            (fault-character y (lineAt y s at) wide expected place h good (line-character at place h ∙ b)
+            (λ g. ap (wrongNumber expected) (known-number place g good) ∙ right g))
+            h
+
+        pub left-on : Good y (lineAt y s at) (lengthOf y) → wrongNumber expected number ≡ false → y .late (lineAt y s at) ≡ false
+            → Left used (at + lengthOf y) (following number)
+        unfolding checkLinesBy numberAfter cutLines
+        left-on good right early =
+            let k = one-left in
+            let here = known-number (lengthOf y) (omega arith) good in
+            let faultless : lineFault y expected (lineAt y s at) ≡ lengthOf y =
+            fault-late y (lineAt y s at) wide expected good (ap (wrongNumber expected) here ∙ right) ∙ simp early
+            in
+            record {
+              count = k .0;
+              filled = omega (arith, left .filled, ap (λ (n : ℕ). n * lengthOf y) (k .1), suc-mul (k .0) (lengthOf y));
+              checked =
+                  left .checked ∙ ap (λ (n : ℕ). checkLinesBy y expected at (cutLines y n (drop at s))) (k .1)
+                  ∙ simp (faultless, le-ltb (lengthOf y) (lengthOf y) (omega arith), here, drop-drop);
+              numbered =
+                  left .numbered ∙ ap (λ (n : ℕ). numberAfter expected (cutLines y n (drop at s))) (k .1)
+                  ∙ ap (λ (n : ℕ). numberAfter (following n) (cutLines y (k .0) (drop (lengthOf y) (drop at s)))) here
+                  ∙ ap (λ (l : List ℕ). numberAfter (following number) (cutLines y (k .0) l)) (drop-drop (lengthOf y) at s);
+            }
 
 -- what a stop tells
 pub scanned-unsound : {found : Checked} {ls : List (List ℕ)} {k : Scanned} {at : ℕ} → k ≡ record { refusal = 11; offset = at; next = 0 }

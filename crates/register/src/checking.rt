@@ -4,15 +4,15 @@ use crate::layout::FIGURE_WIDTH;
 use crate::layout::LINE_LENGTH;
 use crate::layout::TEXT_LENGTH;
 ghost use mathlib.Core.Path.{_≡_};
-ghost use mathlib.Core.Bool.{cond, not, _&&_};
-ghost use Prim.Native.Nat.{_%_, _≤_, _<_};
+ghost use mathlib.Core.Bool.{false, cond, not, _&&_};
+ghost use Prim.Native.Nat.{_+_, _%_, _≤_, _<_};
 ghost use lib.Dec.{ltb, eqb};
 ghost use lib.ListN.{length, getD, take};
-ghost use Rattle.split.specs.Frame.{noDigit, badCharacter};
-ghost use Rattle.register.specs.Line.{textLength};
+ghost use Rattle.split.specs.Frame.{hexValue, noDigit, badCharacter, numberAt};
+ghost use Rattle.register.specs.Line.{figureWidth, textLength};
 ghost use Rattle.register.specs.Layout.{lent, lineLength, usedLines};
 ghost use Rattle.register.specs.Check.{following, wrongNumber, badUsed, checkLines, checkOf};
-ghost use Rattle.register.specs.Scan.{ScannedAs};
+ghost use Rattle.register.specs.Scan.{ScannedAs, DigitsAt};
 
 // What going along a register finds: the check's refusal and offset, and where there is none the number that a next line
 // must have, 0 where there is no line.
@@ -48,6 +48,28 @@ fn has_layout(line: &[u8]) -> bool
     ensures { λ r. ⌜ r ≡ (not (badCharacter (take textLength (now (line .entry)))) && eqb (getD (now (line .entry)) textLength 0) 10) ⌝ }
 {
     !split::has_bad_character(&line[0..TEXT_LENGTH]) & (line[TEXT_LENGTH] == b'\n')
+}
+
+// The value of a character that is a digit, and some number below 16 of any other.
+fn digit_value(character: u8) -> u32
+    ensures { λ r. ⌜ (r < 16) × (noDigit character ≡ false → r ≡ hexValue character % 16) ⌝ }
+{
+    let code = character as u32;
+    (code % 16 + 9 * (code / 64)) % 16
+}
+
+// The number of the line at a place, where its characters are digits. It is worked out without asking whether they are.
+fn line_number(register: &[u8], at: usize) -> u32
+    requires { ⌜ at + figureWidth ≤ length (now register) ⌝ }
+    ensures { λ r. ⌜ (DigitsAt (now (register .entry)) at figureWidth → r ≡ numberAt (now (register .entry)) at figureWidth) ⌝ }
+{
+    let mut value: u32 = 0;
+    let mut i = 0;
+    while i < FIGURE_WIDTH {
+        value = value * 16 + digit_value(register[at + i]);
+        i += 1;
+    }
+    value
 }
 
 // The number that follows another.
@@ -89,7 +111,7 @@ fn scan_lines(register: &[u8], used: usize) -> Scanned
                 next: expected,
             };
         }
-        let number = split::number_at(register, at);
+        let number = line_number(register, at);
         let wrong = is_wrong_number(expected, number);
         let whole = has_layout(&register[at..at + LINE_LENGTH]);
         if wrong | !whole {

@@ -2,7 +2,7 @@
 -- number and of all its characters has no fault, and of any other the characters before `place` are good.
 use Prim.Native.Nat.{ℕ, _+_, _-_, _≤_, _<_}
 use mathlib.Core.Bool.{false, not}
-use mathlib.Core.Path.{_≡_, refl, sym, _∙_, ap}
+use mathlib.Core.Path.{_≡_, refl, sym, _∙_}
 use mathlib.Core.Logic.{⊎-elim}
 use native.Mathlib.Omega.{arith}
 use lib.Dec.{eqb}
@@ -10,10 +10,8 @@ use lib.ListN.{length-take, length-drop}
 use borrow.Author.Needs.{needs}
 use borrow.Author.Tests.{eqb-true, not-false}
 use Rattle.calendar.proofs.TestsLaws.{and-left, and-right, or-left, or-right}
-use Rattle.split.specs.Frame.{numberAt}
 use Rattle.register.specs.Line.{figureWidth, textLength}
 use Rattle.register.specs.Layout.{lineLayout}
-use Rattle.register.specs.Check.{wrongNumber}
 use Rattle.register.proofs.LayoutLaws.{lineAt}
 use Rattle.register.proofs.CheckLaws.{number-inside, Good}
 use Rattle.register.proofs.CheckLoop.{right-next, good-more, good-whole, Left, left-start, left-done, left-inside, stop-number, stop-character, left-on, scanned-unsound}
@@ -45,6 +43,9 @@ inside c = left-inside lineLayout number-inside _ (c .before .lines .inv) (c .if
 lines-holds : tie.Need-lines-holds Inv-loop μ-loop Inv-lines μ-lines
 lines-holds c = left-start lineLayout number-inside _ _ (c .before .pre .1)
 
+line-number-requires : tie.Need-line-number-requires Inv-loop μ-loop Inv-lines μ-lines
+line-number-requires c κs = omega (arith, inside c)
+
 add-has-layout : tie.Need-add-has-layout Inv-loop μ-loop Inv-lines μ-lines
 add-has-layout c = omega (arith, inside (c .before .before))
 
@@ -69,13 +70,6 @@ add-unsound c = omega (arith, inside (c .before .before .before .before .before 
 
 add-at : tie.Need-add-at Inv-loop μ-loop Inv-lines μ-lines
 add-at c = omega (arith, inside (c .before .before .before .before .before .before))
-
--- the test of the number is the definition's of the line's
-tested : (c : tie.After-is-wrong-number Inv-loop μ-loop Inv-lines μ-lines)
-    → let l = c .before .before .before in
-    wrongNumber (l .lines .expected) (numberAt (l .before .before .args .register .now) (l .lines .at) figureWidth) ≡ c .is-wrong-number .result
-tested c =
-    ap (wrongNumber (c .before .before .before .lines .expected)) (sym (c .before .number-at .ensures)) ∙ sym (c .is-wrong-number .ensures)
 
 -- at a place past the number's the number is right
 right : (c : tie.Else3 Inv-loop μ-loop Inv-lines μ-lines) → figureWidth ≤ c .before .before .loop .place
@@ -102,17 +96,17 @@ lines-again c =
     let n = w .before in
     let l = n .before .before in
     let s = l .before .before .args .register .now in
+    let on = left-on lineLayout number-inside s (l .lines .inv) (n .before .if1 .left) (n .line-number .result) (n .line-number .ensures) in
     rw (c .following-number .ensures)
     (⊎-elim
     (λ b.
     let all : b .1 .place ≡ lineSize = omega arith in
-    left-on lineLayout number-inside s (l .lines .inv) (n .before .if1 .left) (n .number-at .result) (n .number-at .ensures)
-    (rw all at (b .1 .inv .1)) (tested w ∙ b .1 .inv .2 (omega arith)) refl)
+    on (rw all at (b .1 .inv .1)) (sym (w .is-wrong-number .ensures) ∙ b .1 .inv .2 (omega arith)) refl)
     (λ b.
-    left-on lineLayout number-inside s (l .lines .inv) (n .before .if1 .left) (n .number-at .result) (n .number-at .ensures)
+    on
     (good-whole lineLayout number-inside s (l .lines .at) (j .before .has-layout .result) (omega (arith, inside (n .before))) (j .before .has-layout .ensures)
     (not-false _ (or-right (w .is-wrong-number .result) (not (j .before .has-layout .result)) (b .left))))
-    (tested w ∙ or-left (w .is-wrong-number .result) (not (j .before .has-layout .result)) (b .left)) refl)
+    (sym (w .is-wrong-number .ensures) ∙ or-left (w .is-wrong-number .result) (not (j .before .has-layout .result)) (b .left)) refl)
     (j .if2 .came))
 
 returns : tie.Need-returns Inv-loop μ-loop Inv-lines μ-lines
@@ -130,8 +124,8 @@ returns-2 c =
     eqb-true (p .place) figureWidth (and-left (eqb (p .place) figureWidth) (w .is-wrong-number .result) (t .if3 .taken))
     in
     scanned-unsound (c .unsound .ensures)
-    (stop-number lineLayout number-inside _ (l .lines .inv) (w .before .before .if1 .left) (rw here at (p .inv .1))
-    (tested w ∙ and-right (eqb (p .place) figureWidth) (w .is-wrong-number .result) (t .if3 .taken)))
+    (stop-number lineLayout number-inside _ (l .lines .inv) (w .before .before .if1 .left) _ (w .before .line-number .ensures) (rw here at (p .inv .1))
+    (sym (w .is-wrong-number .ensures) ∙ and-right (eqb (p .place) figureWidth) (w .is-wrong-number .result) (t .if3 .taken)))
 
 returns-3 : tie.Need-returns-3 Inv-loop μ-loop Inv-lines μ-lines
 unfolding textLength
@@ -141,13 +135,13 @@ returns-3 c =
     let w = e .before .before .before .before .before .before in
     let l = w .before .before .before in
     scanned-unsound (c .unsound2 .ensures)
-    (stop-character lineLayout number-inside _ (l .lines .inv) (w .before .before .if1 .left) (p .place) (e .before .loop-test .taken) (p .inv .1)
-    (sym (c .before .before .is-bad .ensures) ∙ c .before .if4 .taken) (λ h. tested w ∙ right e h))
+    (stop-character lineLayout number-inside _ (l .lines .inv) (w .before .before .if1 .left) _ (w .before .line-number .ensures) (p .place) (e .before .loop-test .taken) (p .inv .1)
+    (sym (c .before .before .is-bad .ensures) ∙ c .before .if4 .taken) (λ h. sym (w .is-wrong-number .ensures) ∙ right e h))
 
 pub scan-lines-spec : {M : Type 1} → statement M
 scan-lines-spec =
     tie.close
-    (tie.spec Inv-loop μ-loop Inv-lines μ-lines lines-holds (search needs) (search needs) add-has-layout (search needs)
+    (tie.spec Inv-loop μ-loop Inv-lines μ-lines lines-holds line-number-requires (search needs) add-has-layout (search needs)
     (search needs) part-has-layout-end has-layout-requires loop-holds (search needs) add-is-bad shared-slice-read-is-bad
     (search needs) add-unsound (search needs) (search needs) (search needs) loop-again (search needs) (search needs)
     add-at (search needs) lines-again returns returns-2 returns-3)
