@@ -2,7 +2,7 @@
 -- all; and a turn stops at a wrong number or a bad character, or goes on behind a line without a fault. Assumes nothing.
 use Prim.Native.Nat.{ℕ, zero, suc, _+_, _-_, _*_, _/_, _%_, _^_, _≤_, _<_}
 use mathlib.Core.Bool.{Bool, true, false, cond, not, _&&_}
-use mathlib.Core.List.{List, []}
+use mathlib.Core.List.{List}
 use mathlib.Core.Path.{_≡_, refl, sym, _∙_, ap}
 use native.Mathlib.Decide.{decLt}
 use native.Mathlib.Nat.{add-assoc, add-zero, suc-mul, zero-mul, div-add-mod', pow-suc, pow-le-pow-right, lt-of-lt-of-le}

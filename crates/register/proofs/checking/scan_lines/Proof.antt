@@ -7,7 +7,6 @@ use mathlib.Core.Logic.{⊎-elim}
 use native.Mathlib.Omega.{arith}
 use lib.Dec.{eqb}
 use lib.ListN.{length-take, length-drop}
-use borrow.Author.Needs.{needs}
 use borrow.Author.Tests.{eqb-true, not-false}
 use Rattle.calendar.proofs.TestsLaws.{and-left, and-right, or-left, or-right}
 use Rattle.register.specs.Line.{figureWidth, textLength}
@@ -141,7 +140,7 @@ returns-3 c =
 pub scan-lines-spec : {M : Type 1} → statement M
 scan-lines-spec =
     tie.close
-    (tie.spec Inv-loop μ-loop Inv-lines μ-lines lines-holds line-number-requires (search needs) add-has-layout (search needs)
-    (search needs) part-has-layout-end has-layout-requires loop-holds (search needs) add-is-bad shared-slice-read-is-bad
-    (search needs) add-unsound (search needs) (search needs) (search needs) loop-again (search needs) (search needs)
-    add-at (search needs) lines-again returns returns-2 returns-3)
+    (tie.spec Inv-loop μ-loop Inv-lines μ-lines lines-holds line-number-requires (λ c. omega arith) add-has-layout (λ c. omega arith)
+    (λ c. omega arith) part-has-layout-end has-layout-requires loop-holds (λ c. omega arith) add-is-bad shared-slice-read-is-bad
+    (λ c. omega arith) add-unsound (λ c. omega arith) (λ c. omega arith) (λ c. omega arith) loop-again (λ c. omega arith) (λ c. omega arith)
+    add-at (λ c. omega arith) lines-again returns returns-2 returns-3)

@@ -3,7 +3,6 @@ use Prim.Native.Nat.{_≤_}
 use mathlib.Core.Path.{sym, _∙_}
 use native.Mathlib.Omega.{arith}
 use lib.ListN.{length, length-take, length-drop}
-use borrow.Author.Needs.{needs}
 use Rattle.register.specs.Line.{textLength}
 use Rattle.register.specs.Layout.{lineLayout}
 use Rattle.register.proofs.CheckLaws.{check-sound}
@@ -64,5 +63,5 @@ returns-4 c case none quoted =
 pub enter-spec : {M : Type 1} → statement M
 enter-spec =
     tie.close
-    (tie.spec (search needs) returns sub-if2 (search needs) returns-2 (search needs) returns-3 add-end (search needs) cast-number
-    (search needs) (search needs) part-write-line-end write-line-requires (search needs) returns-4)
+    (tie.spec (λ c. omega arith) returns sub-if2 (λ c. omega arith) returns-2 (λ c. omega arith) returns-3 add-end (λ c. omega arith) cast-number
+    (λ c. omega arith) (λ c. omega arith) part-write-line-end write-line-requires (λ c. omega arith) returns-4)

@@ -71,6 +71,6 @@ returns c = passed-all (c .before .loop .inv .3) (c .loop-test .left)
 pub file-lines-spec : {M : Type 1} → statement M
 file-lines-spec =
     tie.close
-    (tie.spec Inv-loop μ-loop (search needs) loop-holds (search needs) (search needs) (search needs) (search needs)
-    file-known-requires (search needs) (search needs) following-number-requires (search needs) (search needs) (search needs) loop-again
-    (search needs) same-length-2 returns)
+    (tie.spec Inv-loop μ-loop (λ c. omega arith) loop-holds (λ c. omega arith) (λ c. omega arith) (λ c. omega arith) (λ c. omega arith)
+    file-known-requires (λ c. omega arith) (λ c. omega arith) following-number-requires (λ c. omega arith) (λ c. omega arith) (λ c. omega arith) loop-again
+    (λ c. omega arith) same-length-2 returns)

@@ -3,7 +3,6 @@ use Prim.Native.Nat.{ℕ, _+_, _-_}
 use mathlib.Core.Path.{_≡_, ap}
 use native.Mathlib.Omega.{arith}
 use lib.ListN.{take, drop}
-use borrow.Author.Needs.{needs}
 use Rattle.register.proofs.finding.bytes_at.Statement.{statement}
 use Rattle.register.proofs.finding.bytes_at.Tie as tie
 
@@ -14,4 +13,4 @@ returns c =
     ap (λ (n : ℕ). take n (drop (at .offset) (c .before .before .args .register .now))) e
 
 pub bytes-at-spec : {M : Type 1} → statement M
-bytes-at-spec = tie.close (tie.spec (search needs) (search needs) (search needs) (search needs) returns)
+bytes-at-spec = tie.close (tie.spec (λ c. omega arith) (λ c. omega arith) (λ c. omega arith) (λ c. omega arith) returns)

@@ -2,7 +2,6 @@
 use Prim.Native.Nat.{_-_, _≤_}
 use mathlib.Core.Path.{_≡_, refl, sym}
 use native.Mathlib.Omega.{arith}
-use borrow.Author.Needs.{needs}
 use Rattle.register.specs.Line.{figureWidth}
 use Rattle.register.proofs.FindLoop.{sameFigure, figure-same, figure-other, figure-all}
 use Rattle.register.proofs.finding.has_figure.Statement.{statement}
@@ -38,5 +37,5 @@ returns-2 c = sym (figure-all _ (c .before .before .args .at) _ _ (c .before .lo
 pub has-figure-spec : {M : Type 1} → statement M
 has-figure-spec =
     tie.close
-    (tie.spec Inv-loop μ-loop loop-holds (search needs) (search needs) (search needs) (search needs) returns (search needs)
+    (tie.spec Inv-loop μ-loop loop-holds (λ c. omega arith) (λ c. omega arith) (λ c. omega arith) (λ c. omega arith) returns (λ c. omega arith)
     loop-again returns-2)

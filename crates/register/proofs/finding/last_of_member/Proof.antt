@@ -2,7 +2,6 @@
 use Prim.Native.Nat.{_-_}
 use mathlib.Core.Path.{_≡_, refl, _∙_}
 use native.Mathlib.Omega.{arith}
-use borrow.Author.Needs.{needs}
 use Rattle.split.specs.Frame.{hexText}
 use Rattle.register.specs.Line.{figureWidth, textLength}
 use Rattle.register.specs.Layout.{lineLayout}
@@ -66,5 +65,5 @@ returns-2 c = same-none lineLayout _ _ _ (c .before .loop .i) (c .before .loop .
 pub last-of-member-spec : {M : Type 1} → statement M
 last-of-member-spec =
     tie.close
-    (tie.spec Inv-loop μ-loop (search needs) (search needs) loop-holds (search needs) mul-has-figure add-has-figure
-    has-figure-requires returns (search needs) loop-again returns-2)
+    (tie.spec Inv-loop μ-loop (λ c. omega arith) (λ c. omega arith) loop-holds (λ c. omega arith) mul-has-figure add-has-figure
+    has-figure-requires returns (λ c. omega arith) loop-again returns-2)

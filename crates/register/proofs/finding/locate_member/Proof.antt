@@ -1,7 +1,6 @@
 -- `locate_member` is the definition `locate`: by what the check gave, and then by the place of the member's last line.
 use mathlib.Core.Path.{sym, _∙_}
 use native.Mathlib.Omega.{arith}
-use borrow.Author.Needs.{needs}
 use Rattle.register.specs.Line.{textLength}
 use Rattle.register.specs.Layout.{lineLayout}
 use Rattle.register.proofs.FindLoop.{unchecked, lines-sound, answered}
@@ -27,4 +26,4 @@ returns-2 c =
 pub locate-member-spec : {M : Type 1} → statement M
 locate-member-spec =
     tie.close
-    (tie.spec (search needs) (search needs) returns last-of-member-requires (search needs) returns-2)
+    (tie.spec (λ c. omega arith) (λ c. omega arith) returns last-of-member-requires (λ c. omega arith) returns-2)

@@ -1,6 +1,6 @@
 -- `locate_number` is the definition `locate`: by what the check gave, and then by the number's place.
 use mathlib.Core.Path.{sym, _∙_}
-use borrow.Author.Needs.{needs}
+use native.Mathlib.Omega.{arith}
 use Rattle.register.specs.Line.{textLength}
 use Rattle.register.specs.Layout.{lineLayout}
 use Rattle.register.proofs.FindLoop.{unchecked, lines-sound, answered}
@@ -25,4 +25,4 @@ returns-2 c =
 pub locate-number-spec : {M : Type 1} → statement M
 locate-number-spec =
     tie.close
-    (tie.spec (search needs) (search needs) returns place-of-number-requires (search needs) returns-2)
+    (tie.spec (λ c. omega arith) (λ c. omega arith) returns place-of-number-requires (λ c. omega arith) returns-2)

@@ -4,7 +4,6 @@ use mathlib.Core.Path.{_≡_, refl}
 use native.Mathlib.Omega.{arith}
 use lib.ListN.{length, length-set}
 use lib.Seq.{sets}
-use borrow.Author.Needs.{needs}
 use Rattle.split.specs.Frame.{hexText}
 use Rattle.register.proofs.LineLoop.{digit-next, digits-end}
 use Rattle.register.proofs.layout.write_figure.Statement.{statement}
@@ -33,5 +32,5 @@ returns c = digits-end _ _ _ _ _ (c .loop-test .left) (c .before .loop .inv .2)
 pub write-figure-spec : {M : Type 1} → statement M
 write-figure-spec =
     tie.close
-    (tie.spec Inv-loop μ-loop loop-holds (search needs) (search needs) (search needs) (search needs) (search needs)
-    loop-again (search needs) returns)
+    (tie.spec Inv-loop μ-loop loop-holds (λ c. omega arith) (λ c. omega arith) (λ c. omega arith) (λ c. omega arith) (λ c. omega arith)
+    loop-again (λ c. omega arith) returns)

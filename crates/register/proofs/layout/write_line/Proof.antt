@@ -59,5 +59,5 @@ returns c =
 pub write-line-spec : {M : Type 1} → statement M
 write-line-spec =
     tie.close
-    (tie.spec Inv-loop μ-loop write-header-requires loop-holds (search needs) (search needs) (search needs) (search needs)
-    write-share-requires (search needs) (search needs) loop-again slice-write-line same-length returns)
+    (tie.spec Inv-loop μ-loop write-header-requires loop-holds (λ c. omega arith) (λ c. omega arith) (λ c. omega arith) (λ c. omega arith)
+    write-share-requires (λ c. omega arith) (λ c. omega arith) loop-again slice-write-line same-length returns)
