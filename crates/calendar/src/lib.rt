@@ -85,13 +85,14 @@ fn months_to(a: Date, year: u32, month: u8, day: u8) -> u32
 {
     let from = month_index(a.year as u32, a.month);
     let to = month_index(year, month);
-    if to <= from {
-        return 0;
-    }
-    if is_incomplete(a, year, month, day) {
-        return to - from - 1;
-    }
-    to - from
+    // A number and not a branch of its own: days come in any order, so that a branch on them is mispredicted half of the time.
+    let short = if is_incomplete(a, year, month, day) {
+        1
+    } else {
+        0
+    };
+    let whole = from + short;
+    if to <= whole { 0 } else { to - whole }
 }
 
 // Whole months from a to b; 0 where b is before a.
