@@ -13,4 +13,4 @@ returns-2 c = sym (hex-high _ (search needs))
 
 pub hex-character-spec : {M : Type 1} → statement M
 hex-character-spec =
-    tie.close (tie.spec (search needs) (search needs) returns (search needs) (search needs) returns-2)
+    tie.close (tie.spec (search needs) returns (search needs) returns-2)

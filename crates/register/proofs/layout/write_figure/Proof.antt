@@ -1,36 +1,26 @@
--- `write_figure` writes the digits of `hexText`, the last first: the digits left to write give what all give from the start.
-use Prim.Native.Nat.{_≤_}
-use mathlib.Core.Path.{_≡_, refl}
+-- `write_figure` writes a figure's digits: their values, which are then spelled.
+use Prim.Native.Nat.{_+_, _-_}
+use mathlib.Core.Path.{_≡_}
 use native.Mathlib.Omega.{arith}
-use lib.ListN.{length, length-set}
-use lib.Seq.{sets}
+use lib.ListN.{length}
+use borrow.Author.Needs.{needs}
 use Rattle.split.specs.Frame.{hexText}
-use Rattle.register.proofs.LineLoop.{digit-next, digits-end}
+use Rattle.split.proofs.HexLaws.{hex-length}
+use Rattle.register.proofs.LineLoop.{spelled-back, part-spelled}
 use Rattle.register.proofs.layout.write_figure.Statement.{statement}
 use Rattle.register.proofs.layout.write_figure.Tie as tie
 
-abbrev Inv-loop : tie.InvT-loop
-Inv-loop line₀ at value left₀ i₀ line left i = (i ≤ 8) × (length line ≡ length line₀) × (sets line at (hexText i left) ≡ sets line₀ at (hexText 8 value))
-
-abbrev μ-loop : tie.MeasureT-loop
-μ-loop line₀ at value left₀ i₀ line left i = i
-
-loop-holds : tie.Need-loop-holds Inv-loop μ-loop
-loop-holds c = (omega arith, refl, refl)
-
-loop-again : tie.Need-loop-again Inv-loop μ-loop
-loop-again c =
-    let l = c .before .before .loop in (
-      omega arith,
-      simp length-set (l .inv .1),
-      digit-next (l .line) _ _ (l .i) _ (l .left) _ (omega arith) (l .inv .2) (c .hex-character .ensures),
-    )
-
-returns : tie.Need-returns Inv-loop μ-loop
-returns c = digits-end _ _ _ _ _ (c .loop-test .left) (c .before .loop .inv .2)
+returns : tie.Need-returns
+returns c =
+    let digits = c .before .before .before .before .before .before in
+    let s = digits .before .before .before in
+    let at = s .args .at in
+    let text = hexText 8 (s .args .value) in
+    let size : length text ≡ at + 8 - at = omega (arith, hex-length 8 (s .args .value)) in
+    part-spelled _ _ text _ at (at + 8 - at) size (omega arith) (spelled-back 8 (s .args .value)) (digits .write-digits .ensures)
+    (c .before .before .spell .ensures)
 
 pub write-figure-spec : {M : Type 1} → statement M
 write-figure-spec =
     tie.close
-    (tie.spec Inv-loop μ-loop loop-holds (λ c. omega arith) (λ c. omega arith) (λ c. omega arith) (λ c. omega arith) (λ c. omega arith)
-    loop-again (λ c. omega arith) returns)
+    (tie.spec (search needs) (search needs) (search needs) (search needs) (search needs) (search needs) (search needs) returns)
