@@ -1,7 +1,9 @@
 // Dates: whether they are in the calendar, their order, and the months between them.
 ghost use mathlib.Core.Path.{_≡_};
+ghost use mathlib.Core.Bool.{cond};
 ghost use Prim.Native.Nat.{_+_, _*_, _≤_};
-ghost use Rattle.calendar.specs.Calendar.{date, leap, thirty, monthLength, inCalendar, earlier, incomplete, months, sixtiethBirthday};
+ghost use Rattle.calendar.specs.Calendar.{date, leap, monthLength, inCalendar, earlier, incomplete, months, sixtiethBirthday};
+ghost use Rattle.calendar.specs.Tests.{within};
 
 // Any three numbers of these widths, as they stand in a case line; in_calendar tells which are dates.
 pub struct Date {
@@ -19,47 +21,53 @@ fn leap_year(year: u32) -> bool
     fourth & (!hundredth | four_hundredth)
 }
 
-fn thirty_days(month: u8) -> bool
-    ensures { λ r. ⌜ r ≡ thirty month ⌝ }
+// The days that a month has in every year, so without 29 February, as in 1901; 0 where there is no such month.
+fn days_of(month: u8) -> u8
+    ensures { λ r. ⌜ r ≡ cond (within 1 12 month) (monthLength 1901 month) 0 ⌝ }
 {
-    let april = month == 4;
-    let june = month == 6;
-    let september = month == 9;
-    let november = month == 11;
-    april | june | (september | november)
-}
-
-fn days_of_month(year: u32, month: u8) -> u8
-    ensures { λ r. ⌜ r ≡ monthLength year month ⌝ }
-{
-    if month == 2 {
-        if leap_year(year) { 29 } else { 28 }
-    } else {
-        if thirty_days(month) { 30 } else { 31 }
+    match month {
+        1 => 31,
+        2 => 28,
+        3 => 31,
+        4 => 30,
+        5 => 31,
+        6 => 30,
+        7 => 31,
+        8 => 31,
+        9 => 30,
+        10 => 31,
+        11 => 30,
+        12 => 31,
+        _ => 0,
     }
 }
 
-// Whether d is a date of the calendar, by its year, its month, its day and the month's length.
+// Whether d is a date of the calendar. Whether a year is a leap year takes divisions: only 29 February asks.
 pub fn in_calendar(d: Date) -> bool
     ensures { λ r. ⌜ r ≡ inCalendar d ⌝ }
 {
     let year = (1900 <= d.year) & (d.year <= 2199);
-    let month = (1 <= d.month) & (d.month <= 12);
-    let day = (1 <= d.day) & (d.day <= 31);
-    let last = days_of_month(d.year as u32, d.month);
-    year & (month & (day & (d.day <= last)))
+    if (1 <= d.day) & (d.day <= days_of(d.month)) {
+        return year;
+    }
+    if (d.month == 2) & (d.day == 29) {
+        return year & leap_year(d.year as u32);
+    }
+    false
+}
+
+// A date as one number, in the order of dates.
+fn order(d: Date) -> u32
+    ensures { λ r. ⌜ r ≡ d .year * 65536 + (d .month * 256 + d .day) ⌝ }
+{
+    d.year as u32 * 65536 + (d.month as u32 * 256 + d.day as u32)
 }
 
 // Whether a is strictly before b.
 pub fn is_earlier(a: Date, b: Date) -> bool
     ensures { λ r. ⌜ r ≡ earlier a b ⌝ }
 {
-    let year = a.year < b.year;
-    let same_year = a.year == b.year;
-    let month = a.month < b.month;
-    let same_month = a.month == b.month;
-    let day = a.day < b.day;
-    year | same_year & (month | same_month & day)
+    order(a) < order(b)
 }
 
 // 12 times the year plus the month, by which months are counted.
