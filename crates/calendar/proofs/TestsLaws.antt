@@ -10,7 +10,7 @@ use native.Mathlib.Omega.{arith}
 use lib.Dec.{leb, eqb}
 use lib.ListN.{length, getD, drop, drop-of-length-le}
 use lib.Seq.{drop-cons}
-use borrow.Author.Tests.{leb-true, eqb-true, eqb-false}
+use borrow.Author.Tests.{leb-true, lt-leb, eqb-true, eqb-false, ne-eqb}
 use Rattle.calendar.specs.Tests.{any, within, lowest}
 
 -- both parts of a test that holds
@@ -47,6 +47,11 @@ by-zero P r x y none some = go (eqb r 0) refl
 -- two bounds that were tested together
 pub within-bounds : (low high x : ℕ) → within low high x ≡ true → (low ≤ x) × (x ≤ high)
 within-bounds low high x t = (leb-true low x (and-left (leb low x) _ t), leb-true x high (and-right (leb low x) _ t))
+
+-- at most 0 is 0
+pub leb-zero : (x : ℕ) → leb x 0 ≡ eqb x 0
+leb-zero zero = refl
+leb-zero (suc x) = simp (lt-leb (suc x) 0 (omega arith), ne-eqb (suc x) 0 (omega arith))
 
 -- the next element decides, or leaves it to the rest after it
 any-next : {A : Type 0} (f : A → Bool) (l : List A) (i : ℕ) (d : A) → i < length l

@@ -2,13 +2,13 @@
 use crate::case::Head;
 use crate::case::Pension;
 use crate::frame;
-use factors::effective::FactorTerms;
 ghost use mathlib.Core.Path.{_≡_};
-ghost use mathlib.Core.Bool.{false};
+ghost use mathlib.Core.Bool.{false, cond};
 ghost use mathlib.Core.List.{[]};
 ghost use Prim.Native.Nat.{_≤_, _<_};
+ghost use lib.Dec.{eqb};
 ghost use lib.ListN.{take};
-ghost use Rattle.split.specs.Refusal.{ageOf, badLength, undatedHead, undated, disordered, badAge, unknownKind, listedF1, noIncrease, listedIncrease, unlisted, wrongAge, noFactor, unstated, conditions, conditionsWith};
+ghost use Rattle.split.specs.Refusal.{ageOf, badLength, undatedHead, undated, disordered, badAge, unknownKind, unlisted, wrongAge, noFactor, unstated, conditions, conditionsWith};
 ghost use Rattle.calendar.specs.Tests.{lowest, within};
 ghost use Rattle.split.specs.Conditions.{lower, laterConditions, pensionConditions};
 
@@ -69,42 +69,34 @@ fn is_unknown_kind(p: Pension) -> bool
     !is_within(1, 3, p.kind as u32)
 }
 
-fn is_listed_f1(t: FactorTerms) -> bool
-    ensures { λ r. ⌜ r ≡ listedF1 t ⌝ }
+// A bound where it applies, and 0 where it does not.
+fn bound(applies: bool, bound: u32) -> u32
+    ensures { λ r. ⌜ r ≡ cond applies bound 0 ⌝ }
 {
-    let zero = t.f1 == 0;
-    zero | is_within(500, 4000, t.f1 as u32)
+    if applies { bound } else { 0 }
 }
 
-fn has_no_increase(t: FactorTerms) -> bool
-    ensures { λ r. ⌜ r ≡ noIncrease t ⌝ }
+// Whether x is within a list that applies, or 0 where it does not.
+fn is_listed(applies: bool, low: u32, high: u32, x: u32) -> bool
+    ensures { λ r. ⌜ r ≡ cond applies (within low high x) (eqb x 0) ⌝ }
 {
-    let f2 = t.f2 == 0;
-    let f3 = t.f3 == 0;
-    let increase = t.increase == 0;
-    f2 & (f3 & increase)
+    is_within(bound(applies, low), bound(applies, high), x)
 }
 
-fn has_listed_increase(t: FactorTerms) -> bool
-    ensures { λ r. ⌜ r ≡ listedIncrease t ⌝ }
-{
-    let f2 = is_within(500, 4000, t.f2 as u32);
-    let f3 = is_within(1, 1000, t.f3 as u32);
-    let increase = is_within(1, 10000, t.increase as u32);
-    f2 & (f3 & increase)
-}
-
+// Kinds 1 and 2 have a lift flag and F1, kind 2 the other terms too; what a kind does not have is 0. The kind chooses the
+// bounds, since a branch by it would often be mispredicted.
 fn is_unlisted(p: Pension) -> bool
     ensures { λ r. ⌜ r ≡ unlisted p ⌝ }
 {
-    let terms = p.terms;
-    if p.kind == 1 {
-        return !((p.lift <= 1) & (is_listed_f1(terms) & has_no_increase(terms)));
-    }
-    if p.kind == 2 {
-        return !((p.lift <= 1) & (is_listed_f1(terms) & has_listed_increase(terms)));
-    }
-    !((p.lift == 0) & ((terms.f1 == 0) & has_no_increase(terms)))
+    let t = p.terms;
+    let second = p.kind == 2;
+    let first_or_second = second | (p.kind == 1);
+    let lift = p.lift as u32 <= bound(first_or_second, 1);
+    let f1 = (t.f1 == 0) | (first_or_second & is_within(500, 4000, t.f1 as u32));
+    let f2 = is_listed(second, 500, 4000, t.f2 as u32);
+    let f3 = is_listed(second, 1, 1000, t.f3 as u32);
+    let increase = is_listed(second, 1, 10000, t.increase as u32);
+    !(lift & (f1 & (f2 & (f3 & increase))))
 }
 
 fn is_wrong_age(age: u32, p: Pension) -> bool

@@ -1,44 +1,47 @@
--- `is_unlisted` is the definition `unlisted`, kind by kind.
-use borrow.Author.Needs.{needs}
-use borrow.Author.Tests.{eq-eqb, ne-eqb}
-use mathlib.Core.Path.{_≡_}
-use mathlib.Core.Bool.{Bool, not, _&&_}
+-- `is_unlisted` is the definition `unlisted`: its bounds are those of each kind.
+use Prim.Native.Nat.{ℕ}
+use mathlib.Core.Path.{_≡_, refl}
+use mathlib.Core.Bool.{Bool, true, false, cond, not, _&&_, _||_, or-false}
+use native.Mathlib.Omega.{arith}
 use lib.Dec.{leb, eqb}
+use borrow.Author.Needs.{needs}
+use borrow.Author.Tests.{eqb-true}
+use Rattle.calendar.specs.Tests.{within}
+use Rattle.calendar.proofs.TestsLaws.{leb-zero}
 use Rattle.split.specs.declared.case.Pension.{Pension}
 use Rattle.split.specs.Refusal.{unlisted, listedF1, noIncrease, listedIncrease}
 use Rattle.split.proofs.refusal.is_unlisted.Statement.{statement}
 use Rattle.split.proofs.refusal.is_unlisted.Tie as tie
 
+-- within the list of the terms of kind 2, and 0 where the kind is another
+abbrev listed : Bool → ℕ → ℕ → ℕ → Bool
+listed second low high x = cond second (within low high x) (eqb x 0)
+
 -- each kind by itself
-first : (p : Pension) (a b : Bool) → p .kind ≡ 1 → a ≡ listedF1 (p .terms) → b ≡ noIncrease (p .terms)
-    → not (leb (p .lift) 1 && (a && b)) ≡ unlisted p
-unfolding unlisted
-first p a b k x y = simp (eq-eqb _ _ k, x, y)
-
-second : (p : Pension) (a b : Bool) → (p .kind ≡ 1 → ⊥) → p .kind ≡ 2 → a ≡ listedF1 (p .terms)
-    → b ≡ listedIncrease (p .terms) → not (leb (p .lift) 1 && (a && b)) ≡ unlisted p
-unfolding unlisted
-second p a b n k x y = simp (ne-eqb _ _ n, eq-eqb _ _ k, x, y)
-
-third : (p : Pension) (b : Bool) → (p .kind ≡ 1 → ⊥) → (p .kind ≡ 2 → ⊥) → b ≡ noIncrease (p .terms)
-    → not (eqb (p .lift) 0 && (eqb (p .terms .f1) 0 && b)) ≡ unlisted p
-unfolding unlisted
-third p b n m y = simp (ne-eqb _ _ n, ne-eqb _ _ m, y)
+by-kind : (p : Pension) (first second : Bool) → eqb (p .kind) 1 ≡ first → eqb (p .kind) 2 ≡ second
+    → not (leb (p .lift) (cond (second || first) 1 0)
+    && ((eqb (p .terms .f1) 0 || (second || first) && within 500 4000 (p .terms .f1))
+    && (listed second 500 4000 (p .terms .f2)
+    && (listed second 1 1000 (p .terms .f3) && listed second 1 10000 (p .terms .increase)))))
+    ≡ unlisted p
+unfolding unlisted listedF1 noIncrease listedIncrease
+by-kind p true true a b = absurd (omega (arith, eqb-true (p .kind) 1 a, eqb-true (p .kind) 2 b))
+by-kind p true false a b = simp (a, b)
+by-kind p false true a b = simp (a, b)
+by-kind p false false a b = simp (a, b, leb-zero, or-false)
 
 returns : tie.Need-returns
-returns c = first _ _ _ (c .before .before .before .if1 .taken) (c .before .is-listed-f1 .ensures) (c .has-no-increase .ensures)
-
-returns-2 : tie.Need-returns-2
-returns-2 c =
-    second _ _ _ (c .before .before .before .before .before .if1 .left) (c .before .before .before .if2 .taken)
-    (c .before .is-listed-f12 .ensures) (c .has-listed-increase .ensures)
-
-returns-3 : tie.Need-returns-3
-returns-3 c =
-    third _ _ (c .before .before .before .before .before .if1 .left) (c .before .before .before .if2 .left)
-    (c .has-no-increase2 .ensures)
+returns c =
+    let f3 = c .before .before in
+    let f2 = f3 .before .before in
+    let f1 = f2 .before .before in
+    let lift = f1 .before .before .before in
+    let p = lift .before .before .before .before .before .args .p in
+    rw (lift .bound .ensures, f1 .is-within .ensures, f2 .is-listed .ensures, f3 .is-listed2 .ensures, c .is-listed3 .ensures)
+    (by-kind p (eqb (p .kind) 1) (eqb (p .kind) 2) refl refl)
 
 pub is-unlisted-spec : {M : Type 1} → statement M
 is-unlisted-spec =
     tie.close
-    (tie.spec (search needs) (search needs) returns (search needs) (search needs) returns-2 (search needs) returns-3)
+    (tie.spec (search needs) (search needs) (search needs) (search needs) (search needs) (search needs) (search needs)
+    (search needs) (search needs) (search needs) returns)
