@@ -1,15 +1,14 @@
 -- Laws of a pension as the limits see it: it, its factor and its cap as the code works them out are those of the
 -- definitions, a cap is at most a quarter's lump, which is at most twenty pensions, and each pension is at its place.
 -- Assumes nothing.
-use Prim.Native.Nat.{ℕ, zero, suc, _*_, _/_, _≤_, _<_}
+use Prim.Native.Nat.{ℕ, _*_, _/_, _≤_, _<_}
 use mathlib.Core.Bool.{Bool, true, false, _&&_}
-use mathlib.Core.List.{List, [], _∷_, map}
+use mathlib.Core.List.{List}
 use mathlib.Core.Path.{_≡_, refl, sym, _∙_, ap}
 use native.Mathlib.Nat.{div-le-of-le-mul, mul-le-mul-left}
 use native.Mathlib.Omega.{arith}
 use lib.Dec.{eqb, ltb}
 use lib.ListN.{length, getD, take}
-use lib.Seq.{getD-take, length-take-le}
 use Rattle.calendar.specs.Calendar.{months, sixtiethBirthday}
 use Rattle.factors.specs.declared.effective.FactorTerms.{FactorTerms}
 use Rattle.factors.specs.declared.money.LumpPence.{LumpPence}
@@ -25,6 +24,7 @@ use Rattle.split.specs.Refusal.{ageOf}
 use Rattle.split.specs.Benefits.{workedPension, factorOf, limitedLump, quarterLump, benefitOf, benefitsOf, workedTerms, capOf}
 use Rattle.split.specs.Limits.{noBenefit}
 use Rattle.split.proofs.Prices.{ring}
+use Rattle.split.proofs.ListLoop.{stored-at}
 
 -- the pension, where it is reduced for early payment and where it is kept whole
 pub worked-early : (h : Head) (p : Pension) (age left r : ℕ) → age ≡ ageOf h → (eqb (p .kind) 3 && ltb age 720) ≡ true
@@ -83,16 +83,7 @@ benefit-made h p age pension e limited cap a x y l z =
     let capped : cap .0 ≡ capOf (limitedLump p) (workedPension h p) (factorOf (ageOf h) p) = rw (← l, ← x, ← factor) z in
     λ i. record { pension = record { 0 = x i }; factor = factor i; cap = record { 0 = capped i } }
 
--- a pension as the limits see it
-map-at : {A B : Type 0} (f : A → B) (l : List A) (j : ℕ) (d : A) (e : B) → j < length l → getD (map f l) j e ≡ f (getD l j d)
-map-at f [] j d e h = absurd (omega arith)
-map-at f (x ∷ l) zero d e h = refl
-map-at f (x ∷ l) (suc j) d e h = map-at f l j d e (omega arith)
-
+-- a pension as the limits see it, at its place
 pub benefit-at : (h : Head) (ps : List Pension) (bs : List Benefit) (n j : ℕ) → n ≤ length ps → j < n
     → take n bs ≡ benefitsOf h (take n ps) → getD bs j noBenefit ≡ benefitOf h (getD ps j noPension)
-benefit-at h ps bs n j inside place e =
-    sym (getD-take n bs j noBenefit place)
-    ∙ ap (λ (l : List Benefit). getD l j noBenefit) e
-    ∙ map-at (benefitOf h) (take n ps) j noPension noBenefit (rw (length-take-le n ps inside) place)
-    ∙ ap (benefitOf h) (getD-take n ps j noPension place)
+benefit-at h ps bs n j inside place e = stored-at (benefitOf h) ps bs n j noPension noBenefit inside place e

@@ -9,9 +9,8 @@ use native.Mathlib.Nat
 use native.Mathlib.Omega.{arith}
 use Rattle.calendar.specs.Sums.{sumOf}
 use Rattle.split.specs.declared.limits.Benefit.{Benefit}
-use Rattle.split.specs.declared.grant.Row.{Row}
 use Rattle.split.specs.Limits.{total, totalCap, WithinCaps, spend, pricedLimit, Kept, KeepsPriced, PositiveTops, Best}
-use Rattle.split.specs.Grant.{lumpsOf, grant, rowAt}
+use Rattle.split.specs.Grant.{Row, lumpsOf, grant, rowAt}
 use Rattle.split.proofs.LimitsLaws.{total-capped}
 use Rattle.split.proofs.Prices.{priced-exact, exact-priced}
 use Rattle.split.proofs.Served.{Matches, none, more, paid}

@@ -1,20 +1,21 @@
 -- Laws of the grant's loops: the cheapest row is found from the end, a turn of the array is a turn of its first rows,
 -- and as many turns as there are pensions are the grant. Assumes nothing.
-use Prim.Native.Nat.{ℕ, zero, suc, _+_, _-_, _*_, _≤_, _<_}
+use Prim.Native.Nat.{ℕ, zero, suc, _+_, _-_, _*_, _/_, _≤_, _<_, min}
 use mathlib.Core.Bool.{Bool, true, false, cond, _&&_, _||_}
 use mathlib.Core.List.{List, [], _∷_, map}
 use mathlib.Core.Path.{_≡_, refl, sym, _∙_, ap}
 use native.Mathlib.Omega.{arith}
 use lib.Dec.{eqb}
-use lib.ListN.{length, getD, take, drop, length-take, length-drop, drop-of-length-le, List·getD-map}
-use lib.Seq.{drop-cons, take-set-lt, getD-take, getD-drop, length-take-le, map-set-same}
+use lib.ListN.{length, getD, take, drop, set, length-take, length-drop, drop-of-length-le}
+use lib.Seq.{drop-cons, take-set-lt, getD-take, getD-drop, length-take-le}
 use borrow.Author.Tests.{lt-ltb, le-ltb, eqb-false, ne-eqb}
 use Rattle.split.specs.declared.limits.Benefit.{Benefit}
-use Rattle.split.specs.declared.grant.Row.{Row}
 use Rattle.split.specs.Limits.{pricedLimit}
-use Rattle.split.specs.Grant.{noRow, rowOf, goesFirst, served, cheapest, most, turns, lumpsOf, grant, rowAt, serve}
-use Rattle.split.proofs.Prices.{price-floor}
+use Rattle.split.specs.Arrays.{rowsIn}
+use Rattle.split.specs.Grant.{Row, noRow, rowOf, goesFirst, served, cheapest, most, turns, lumpsOf, grant, rowAt, serve}
 use Rattle.split.proofs.Rows.{cheapest-inside}
+use Rattle.split.proofs.Turns.{most-affordable}
+use Rattle.split.proofs.ArraysLaws.{Sized, rows-counted, row-at, row-served}
 
 -- the first row is the cheapest where it waits and none behind it is cheaper
 cheapest-here : (r : Row) (rs : List Row) → r .waiting ≡ true
@@ -93,21 +94,6 @@ pub place-start : (rs : List Row) (i best : ℕ) → i ≤ 0 → best ≡ i + ch
 place-start rs zero best h found = omega arith
 place-start rs (suc i) best h found = absurd (omega arith)
 
--- serving a row keeps every price
-price-kept : (rs : List Row) (i g j : ℕ) → (rowAt (serve rs i g) j) .price ≡ (rowAt rs j) .price
-price-kept rs i g j =
-    sym (List·getD-map price (serve rs i g) j noRow)
-    ∙ ap (λ (l : List ℕ). getD l j 0) (map-set-same price rs i (served (rowAt rs i) g) noRow refl)
-    ∙ List·getD-map price rs j noRow
-  where
-    price : Row → ℕ
-    price r = r .price
-
--- so prices that are positive stay so
-pub prices-positive : (n i g : ℕ) (rs after : List Row) → after ≡ serve rs i g
-    → ((j : ℕ) → j < n → 0 < (rowAt rs j) .price) → (j : ℕ) → j < n → 0 < (rowAt after j) .price
-prices-positive n i g rs after stored positive j h = rw (stored, price-kept rs i g j) (positive j h)
-
 -- a turn of the array is a turn of its first n rows
 pub turns-next : (n m k place left rest : ℕ) (rs after : List Row) → m ≡ suc k → place < n → n ≤ length rs
     → place ≡ cheapest (take n rs) → after ≡ serve rs place (most (rowAt rs place) left)
@@ -118,6 +104,30 @@ turns-next n m k place left rest rs after e h whole found stored spent =
     rw (e, ← found, length-take-le n rs whole, lt-ltb place n h, getD-take n rs place noRow h, stored, spent)
     (rw (take-set-lt n rs place (served (rowAt rs place) (most (rowAt rs place) left)) h))
 
+-- and so of rows whose figures stand in arrays: what the turn gives is stored
+pub arrays-turn : (ps cs ls : List ℕ) (ws : List Bool) (n m k place left lump : ℕ) → Sized ps cs ls ws 4 → m ≡ suc k → place < n
+    → n ≤ 4 → place ≡ cheapest (take n (rowsIn ps cs ls ws)) → lump ≡ min (getD cs place 0) (left / getD ps place 0)
+    → turns m (take n (rowsIn ps cs ls ws)) left
+    ≡ turns k
+    (take n
+    (rowsIn ps cs (set ls place ((served (rowAt (rowsIn ps cs ls ws) place) lump) .lump .0))
+    (set ws place ((served (rowAt (rowsIn ps cs ls ws) place) lump) .waiting))))
+    (left - lump * getD ps place 0)
+unfolding most
+arrays-turn ps cs ls ws n m k place left lump sized e h few found given =
+    let rs = rowsIn ps cs ls ws in
+    let row = row-at ps cs ls ws 4 place sized (omega arith) in
+    let same : lump ≡ most (rowAt rs place) left = given ∙ sym (ap (λ (r : Row). most r left) row) in
+    turns-next n m k place left _ rs _ e h (rw (rows-counted ps cs ls ws 4 sized) few) found
+    (row-served ps cs ls ws place lump ∙ ap (λ (g : ℕ). serve rs place g) same)
+    (ap (λ (g : ℕ). left - g * getD ps place 0) same ∙ sym (ap (λ (r : Row). left - most (rowAt rs place) left * r .price) row))
+
+-- what a turn gives costs at most what is left
+pub lump-affordable : (cap price left : ℕ) → min cap (left / price) * price ≤ left
+unfolding most
+lump-affordable cap price left =
+    most-affordable (record { price = price; cap = record { 0 = cap }; lump = record { 0 = 0 }; waiting = true }) left
+
 -- where none of them waits, turns change nothing
 pub turns-idle : (n m left : ℕ) (rs : List Row) → n ≤ cheapest (take n rs) → turns m (take n rs) left ≡ take n rs
 unfolding turns
@@ -125,20 +135,9 @@ turns-idle n zero left rs h = refl
 turns-idle n (suc m) left rs h =
     rw (le-ltb (cheapest (take n rs)) (length (take n rs)) (rw length-take (omega arith)))
 
--- rows of pensions have positive prices
-pub rows-priced : (bs : List Benefit) (rs : List Row) (n : ℕ) → n ≤ length bs → take n rs ≡ map rowOf (take n bs)
-    → (j : ℕ) → j < n → 0 < (rowAt rs j) .price
-rows-priced bs rs n whole e j h =
-    rw (← getD-take n rs j noRow h, e) (go (take n bs) j (rw (length-take-le n bs whole) h))
-  where
-    go : (l : List Benefit) (k : ℕ) → k < length l → 0 < (rowAt (map rowOf l) k) .price
-    go [] k p = absurd (omega arith)
-    go (b ∷ l) zero p = omega (arith, price-floor (b .factor))
-    go (b ∷ l) (suc k) p = go l k (omega arith)
-
--- as many turns of the first n rows as there are pensions are the grant
-pub grant-made : (bs : List Benefit) (n limit : ℕ) (rs after : List Row) → n ≤ length bs
-    → take n rs ≡ map rowOf (take n bs) → limit ≡ pricedLimit (take n bs) → take n after ≡ turns n (take n rs) limit
-    → lumpsOf (take n after) ≡ grant (take n bs)
+-- as many turns of the rows of pensions as there are pensions are the grant
+pub grant-made : (bs : List Benefit) (n limit : ℕ) (rs : List Row) (lumps : List ℕ) → n ≤ length bs
+    → take n rs ≡ map rowOf (take n bs) → limit ≡ pricedLimit (take n bs) → lumps ≡ lumpsOf (turns n (take n rs) limit)
+    → lumps ≡ grant (take n bs)
 unfolding grant
-grant-made bs n limit rs after whole made l e = rw (length-take-le n bs whole, e, made, l)
+grant-made bs n limit rs lumps whole made l e = rw (length-take-le n bs whole, e, made, l)

@@ -9,9 +9,8 @@ use native.Mathlib.Nat
 use native.Mathlib.Omega.{arith}
 use lib.ListN.{length}
 use Rattle.split.specs.declared.limits.Benefit.{Benefit}
-use Rattle.split.specs.declared.grant.Row.{Row}
 use Rattle.split.specs.Limits.{pricedLimit}
-use Rattle.split.specs.Grant.{rowOf, served, rowAt, serve}
+use Rattle.split.specs.Grant.{Row, rowOf, served, rowAt, serve}
 use Rattle.split.proofs.Prices.{price-floor}
 use Rattle.split.proofs.Rows.{every-set, every-start, Lowest}
 use Rattle.split.proofs.Served.{Run, run-start, run-serve}

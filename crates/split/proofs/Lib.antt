@@ -2,6 +2,7 @@
 -- every other file is named for the argument it makes. The exception is HexLaws: of specs/Frame, numbers written and read
 -- back.
 pub mod Accepted
+pub mod ArraysLaws
 pub mod BenefitsLaws
 pub mod Best
 pub mod CaseLaws

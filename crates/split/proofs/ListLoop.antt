@@ -1,13 +1,13 @@
 -- What a turn of a loop that goes through a list or fills one does: a part grows by the next element or by a store, and
 -- how far the loop has come. Assumes nothing.
-use Prim.Native.Nat.{ℕ, suc, _+_, _-_, _<_, _≤_}
-use mathlib.Core.Path.{_≡_, sym}
+use Prim.Native.Nat.{ℕ, zero, suc, _+_, _-_, _<_, _≤_}
+use mathlib.Core.Path.{_≡_, refl, sym, _∙_, ap}
 use mathlib.Core.List.{List, [], _∷_, _++_, map, map-append, append-assoc}
 use native.Mathlib.Nat.{le-antisymm}
 use native.Mathlib.Numerals.{add-one}
 use native.Mathlib.Omega.{arith}
 use lib.ListN.{length, getD, take, set, replicate}
-use lib.Seq.{take-suc, take-suc-set, set-at}
+use lib.Seq.{take-suc, take-suc-set, set-at, getD-take, length-take-le}
 
 -- a store just past a part makes the part one longer
 pub take-set-more : {A : Type 0} (l : List A) (i : ℕ) (x : A) → i < length l → take (i + 1) (set l i x) ≡ take i l ++ (x ∷ [])
@@ -30,6 +30,20 @@ pub map-stored : {A B : Type 0} (f : A → B) (xs : List A) (ys : List B) (i : �
     → take (i + 1) (set ys i y) ≡ map f (take (i + 1) xs)
 map-stored f xs ys i d y h g t e =
     rw (take-set-more ys i y g, t, e, take-next xs i d h) (sym (map-append f (take i xs) (getD xs i d ∷ [])))
+
+-- and what is stored at a place of it is made of that element
+map-at : {A B : Type 0} (f : A → B) (l : List A) (j : ℕ) (d : A) (e : B) → j < length l → getD (map f l) j e ≡ f (getD l j d)
+map-at f [] j d e h = absurd (omega arith)
+map-at f (x ∷ l) zero d e h = refl
+map-at f (x ∷ l) (suc j) d e h = map-at f l j d e (omega arith)
+
+pub stored-at : {A B : Type 0} (f : A → B) (xs : List A) (ys : List B) (n j : ℕ) (d : A) (e : B) → n ≤ length xs → j < n
+    → take n ys ≡ map f (take n xs) → getD ys j e ≡ f (getD xs j d)
+stored-at {B = B} f xs ys n j d e inside place made =
+    sym (getD-take n ys j e place)
+    ∙ ap (λ (l : List B). getD l j e) made
+    ∙ map-at f (take n xs) j d e (rw (length-take-le n xs inside) place)
+    ∙ ap f (getD-take n xs j d place)
 
 -- numbers up to a list's known length
 pub up-to : {A : Type 0} (l : List A) {k n : ℕ} → length l ≡ n → k ≤ n → k ≤ length l

@@ -2,10 +2,10 @@
 -- lump, so that a lump gives up no more than the pension. Assumes nothing.
 use Prim.Native.Nat.{ℕ, _*_, _/_, _≤_, _<_}
 use mathlib.Core.List.{List}
-use mathlib.Core.Path.{_≡_, _∙_, ap}
+use mathlib.Core.Path.{_≡_}
 use native.Mathlib.Nat.{div-le-of-le-mul, le-div-iff-mul-le}
 use native.Mathlib.Omega.{arith}
-use lib.ListN.{length, getD, take, length-map, List·getD-map}
+use lib.ListN.{length, getD, take, length-map}
 use lib.Seq.{getD-take, length-take-le}
 use Rattle.calendar.specs.Tests.{lowest}
 use Rattle.calendar.proofs.SumsLaws.{sum-at}
@@ -13,12 +13,11 @@ use Rattle.factors.specs.Effective.{FactorRange}
 use Rattle.split.specs.declared.case.Head.{Head}
 use Rattle.split.specs.declared.case.Pension.{Pension}
 use Rattle.split.specs.declared.limits.Benefit.{Benefit}
-use Rattle.split.specs.declared.grant.Row.{Row}
 use Rattle.split.specs.Case.{noPension}
 use Rattle.split.specs.Refusal.{ageOf, conditions}
 use Rattle.split.specs.Benefits.{workedPension, factorOf, limitedLump, quarterLump, benefitOf, benefitsOf}
 use Rattle.split.specs.Limits.{noBenefit, total, totalPension, totalCap, WithinCaps}
-use Rattle.split.specs.Grant.{noRow, rowAt, lumpsOf, grant}
+use Rattle.split.specs.Grant.{grant}
 use Rattle.split.specs.Ranges.{ShareRange, SharesRange}
 use Rattle.split.proofs.Prices.{ring}
 use Rattle.split.proofs.Best.{grant-best}
@@ -93,33 +92,29 @@ module _ (h : Head) (ps : List Pension) (n : ℕ) (few : n ≤ 4) (four : length
         (omega (arith, sum-at (λ (b : Benefit). b .cap .0) (take n bs) noBenefit j inside, caps-small))
 
     -- and the lumps granted
-    module _ (rs : List Row) (granted : lumpsOf (take n rs) ≡ grant (take n bs)) where
-      within-caps : WithinCaps (take n bs) (lumpsOf (take n rs))
+    module _ (lumps : List ℕ) (granted : take n lumps ≡ grant (take n bs)) where
+      within-caps : WithinCaps (take n bs) (take n lumps)
       within-caps =
           rw (granted, worked)
           (grant-best (benefitsOf h (take n ps)) (accepted-tops h (take n ps) part-accepted)
           (omega (arith, accepted-caps h (take n ps) part-accepted)) .priced .caps)
 
-      pub lumps-small : total (lumpsOf (take n rs)) ≤ 1000000000
-      lumps-small = omega (arith, total-capped (take n bs) (lumpsOf (take n rs)) within-caps, caps-small)
+      pub lumps-small : total (take n lumps) ≤ 1000000000
+      lumps-small = omega (arith, total-capped (take n bs) (take n lumps) within-caps, caps-small)
 
-      lump-at : (j : ℕ) → j < n → getD (lumpsOf (take n rs)) j 0 ≡ (rowAt rs j) .lump .0
-      lump-at j place = List·getD-map (λ (r : Row). r .lump .0) (take n rs) j noRow ∙ ap (λ (r : Row). r .lump .0) (getD-take n rs j noRow place)
-
-      capped-at : (j : ℕ) → j < n → (rowAt rs j) .lump .0 ≤ (getD bs j noBenefit) .cap .0
+      capped-at : (j : ℕ) → j < n → getD lumps j 0 ≤ (getD bs j noBenefit) .cap .0
       capped-at j place =
-          rw (← lump-at j place, ← getD-take n bs j noBenefit place)
-          (caps-at (take n bs) (lumpsOf (take n rs)) within-caps j)
+          rw (← getD-take n lumps j 0 place, ← getD-take n bs j noBenefit place) (caps-at (take n bs) (take n lumps) within-caps j)
 
-      range-at : (j : ℕ) → j < n → ShareRange (getD bs j noBenefit) ((rowAt rs j) .lump .0)
+      range-at : (j : ℕ) → j < n → ShareRange (getD bs j noBenefit) (getD lumps j 0)
       range-at j place =
           let same = benefit-at h ps bs n j (omega arith) place worked in
           rw same
-          (share-range h (getD ps j noPension) (taken-at j place) ((rowAt rs j) .lump .0)
+          (share-range h (getD ps j noPension) (taken-at j place) (getD lumps j 0)
           (omega (arith, capped-at j place, cap-small j place))
           (rw same at (capped-at j place)))
 
-      pub shares-range : SharesRange h ps bs rs n
+      pub shares-range : SharesRange h ps bs lumps n
       shares-range = record {
         places = few;
         benefits = worked;

@@ -10,8 +10,7 @@ use lib.ListN.{length, set}
 use borrow.Author.Tests.{leb-true, leb-false, eqb-true, eqb-false}
 use Rattle.calendar.specs.Sums.{sumOf}
 use Rattle.split.specs.declared.limits.Benefit.{Benefit}
-use Rattle.split.specs.declared.grant.Row.{Row}
-use Rattle.split.specs.Grant.{noRow, rowOf, rowAt, goesFirst, cheapest}
+use Rattle.split.specs.Grant.{Row, noRow, rowOf, rowAt, goesFirst, cheapest}
 
 -- a row replaced: its number leaves the sum, and the new row's comes in
 pub sum-set : (f : Row → ℕ) (rs : List Row) (i : ℕ) (r : Row) → i < length rs

@@ -10,9 +10,8 @@ use native.Mathlib.Omega.{arith}
 use lib.ListN.{length}
 use Rattle.calendar.specs.Sums.{sumOf}
 use Rattle.split.specs.declared.limits.Benefit.{Benefit}
-use Rattle.split.specs.declared.grant.Row.{Row}
 use Rattle.split.specs.Limits.{priceOf, pricedLimit}
-use Rattle.split.specs.Grant.{rowOf, served, rowAt, serve}
+use Rattle.split.specs.Grant.{Row, rowOf, served, rowAt, serve}
 use Rattle.split.proofs.Rows.{sum-set, every-set, every-start}
 
 -- rows with the prices and caps of pensions

@@ -12,9 +12,8 @@ use lib.ListN.{length}
 use borrow.Author.Tests.{ltb-true, ltb-false}
 use Rattle.calendar.specs.Sums.{sumOf}
 use Rattle.split.specs.declared.limits.Benefit.{Benefit}
-use Rattle.split.specs.declared.grant.Row.{Row}
 use Rattle.split.specs.Limits.{pricedLimit}
-use Rattle.split.specs.Grant.{rowOf, cheapest, most, nextLump, nextLeft, turns, rowAt, serve}
+use Rattle.split.specs.Grant.{Row, rowOf, cheapest, most, nextLump, nextLeft, turns, rowAt, serve}
 use Rattle.split.proofs.Rows.{cheapest-lowest}
 use Rattle.split.proofs.Served.{waitOf, waits-start, waits-counted, waits-serve}
 use Rattle.split.proofs.Level.{State, state-start, state-serve, Settled, settle}

@@ -5,9 +5,16 @@ use mathlib.Core.Bool.{Bool, true, false, cond, _&&_, _||_}
 use mathlib.Core.List.{List, [], _∷_, map}
 use lib.Dec.{leb, ltb, eqb}
 use lib.ListN.{length, getD, set}
+use Rattle.factors.specs.declared.money.LumpPence.{LumpPence}
 use Rattle.split.specs.declared.limits.Benefit.{Benefit}
-use Rattle.split.specs.declared.grant.Row.{Row}
 use Rattle.split.specs.Limits.{priceOf, pricedLimit}
+
+-- a pension in the grant: its price, its cap, the lump it has been given, and whether its turn is still to come
+pub record Row : Type 0 where
+  pub price : ℕ
+  pub cap : LumpPence
+  pub lump : LumpPence
+  pub waiting : Bool
 
 -- the row that stands for none
 abbrev pub noRow : Row

@@ -1,3 +1,4 @@
+pub mod Arrays
 pub mod Benefits
 pub mod Case
 pub mod Conditions

@@ -8,11 +8,9 @@ use Rattle.factors.specs.Effective.{FactorRange}
 use Rattle.split.specs.declared.case.Head.{Head}
 use Rattle.split.specs.declared.case.Pension.{Pension}
 use Rattle.split.specs.declared.limits.Benefit.{Benefit}
-use Rattle.split.specs.declared.grant.Row.{Row}
 use Rattle.split.specs.Case.{noPension}
 use Rattle.split.specs.Benefits.{benefitsOf}
 use Rattle.split.specs.Limits.{noBenefit}
-use Rattle.split.specs.Grant.{rowAt}
 
 -- a pension and its lump, for what remains of it
 pub record ShareRange (b : Benefit) (lump : ℕ) : Type 0 where
@@ -21,8 +19,8 @@ pub record ShareRange (b : Benefit) (lump : ℕ) : Type 0 where
   pub given-up : lump * b .factor .bottom / b .factor .top ≤ b .pension .0
 
 -- the pensions of a case, as the limits see them and with their lumps, in n places
-pub record SharesRange (h : Head) (ps : List Pension) (bs : List Benefit) (rs : List Row) (n : ℕ) : Type 0 where
+pub record SharesRange (h : Head) (ps : List Pension) (bs : List Benefit) (lumps : List ℕ) (n : ℕ) : Type 0 where
   pub places : n ≤ 4
   pub benefits : take n bs ≡ benefitsOf h (take n ps)
-  pub ranges : (j : ℕ) → j < n → ShareRange (getD bs j noBenefit) (rowAt rs j .lump .0)
+  pub ranges : (j : ℕ) → j < n → ShareRange (getD bs j noBenefit) (getD lumps j 0)
   pub increases : (j : ℕ) → j < n → getD ps j noPension .terms .increase ≤ 10000

@@ -1,160 +1,100 @@
 // The grant: lowest price first, equal prices in line order, each pension the most its cap and what is left of the
-// priced limit allow.
+// priced limit allow. Figures of pensions stand in arrays of numbers, since no array of structs can be lent.
 use crate::limits;
 use crate::limits::Benefit;
 use factors::money::LumpPence;
 ghost use mathlib.Core.Path.{_≡_};
-ghost use mathlib.Core.List.{map};
-ghost use Prim.Native.Nat.{ℕ, _-_, _*_, _≤_, _<_};
-ghost use lib.ListN.{length, getD, take};
+ghost use mathlib.Core.Bool.{true};
+ghost use mathlib.Core.List.{List};
+ghost use Prim.Native.Nat.{ℕ, _/_, _≤_, _<_, min};
+ghost use lib.ListN.{length, getD, take, replicate};
 ghost use Rattle.factors.specs.Effective.{FactorRange};
 ghost use Rattle.split.specs.Limits.{noBenefit, totalPension};
-ghost use Rattle.split.specs.Grant.{rowOf, rowAt, goesFirst, cheapest, most, serve, turns, lumpsOf, grant};
+ghost use Rattle.split.specs.Grant.{Row, goesFirst, cheapest, turns, lumpsOf, grant};
+ghost use Rattle.split.specs.Arrays.{rowsIn};
 
-// A pension in the grant: its price, its cap, the lump it has been given, and whether its turn is still to come.
-pub struct Row {
-    pub price: u64,
-    pub cap: LumpPence,
-    pub lump: LumpPence,
-    pub waiting: bool,
-}
-
-struct Served {
-    pub rows: [Row; 4],
-    pub left: u64,
-}
-
-// A pension before its turn.
-fn row_of(b: Benefit) -> Row
-    requires { ⌜ FactorRange (b .factor) ⌝ }
-    ensures { λ r. ⌜ r ≡ rowOf b ⌝ }
+// Whether a price has its turn before one behind it: lowest price first, equal prices in line order.
+fn goes_first(price: u64, behind: u64) -> bool
+    ensures { λ r. ⌜ ((row other : Row) → row .price ≡ price → other .price ≡ behind → r ≡ goesFirst row other) ⌝ }
 {
-    let factor = b.factor;
-    let cap = b.cap;
-    Row {
-        price: limits::price_of(factor),
-        cap,
-        lump: LumpPence(0),
-        waiting: true,
-    }
+    price <= behind
 }
 
-// The rows of the first n pensions, none of which has had its turn.
-fn rows_of(benefits: [Benefit; 4], n: usize) -> [Row; 4]
-    requires { ⌜ (n ≤ 4) × ((j : ℕ) → j < n → FactorRange (getD benefits j noBenefit .factor)) ⌝ }
-    ensures { λ r. ⌜ (take n r ≡ map rowOf (take n benefits)) × (length r ≡ 4) ⌝ }
-{
-    let blank = Row {
-        price: 0,
-        cap: LumpPence(0),
-        lump: LumpPence(0),
-        waiting: false,
-    };
-    let mut rows = [blank; 4];
-    let mut i = 0;
-    while i < n {
-        let benefit = benefits[i];
-        let row = row_of(benefit);
-        rows[i] = row;
-        i += 1;
-    }
-    rows
-}
-
-// Whether a row has its turn before one behind it: lowest price first, equal prices in line order.
-fn goes_first(row: Row, behind: Row) -> bool
-    ensures { λ r. ⌜ r ≡ goesFirst row behind ⌝ }
-{
-    row.price <= behind.price
-}
-
-// The place of the first waiting row of the lowest price among the first n; n where none waits.
-fn cheapest_row(rows: [Row; 4], n: usize) -> usize
-    requires { ⌜ n ≤ 4 ⌝ }
-    ensures { λ r. ⌜ r ≡ cheapest (take n rows) ⌝ }
+// The place of the first waiting pension of the lowest price among the first n; n where none waits.
+fn cheapest_place(prices: &[u64; 4], waiting: &[bool; 4], n: usize) -> usize
+    requires { ⌜ (n ≤ 4) × (length (now prices) ≡ 4) × (length (now waiting) ≡ 4) ⌝ }
+    ensures { λ r. ⌜ ((caps lumps : List ℕ) → length caps ≡ 4 → length lumps ≡ 4 → r ≡ cheapest (take n (rowsIn (now (prices .entry)) caps lumps (now (waiting .entry))))) ⌝ }
 {
     let mut best = n;
     let mut i = n;
     while 0 < i {
         i -= 1;
-        let row = rows[i];
-        if row.waiting {
+        if waiting[i] {
             if best == n {
                 best = i;
-            } else {
-                let other = rows[best];
-                if goes_first(row, other) {
-                    best = i;
-                }
+            } else if goes_first(prices[i], prices[best]) {
+                best = i;
             }
         }
     }
     best
 }
 
-// The most that a row's cap and what is left of the limit allow.
-fn most_of(row: Row, left: u64) -> LumpPence
-    requires { ⌜ 0 < row .price ⌝ }
-    ensures { λ r. ⌜ r .0 ≡ most row left ⌝ }
+// The most that a cap and what is left of the limit allow.
+fn most_of(cap: LumpPence, price: u64, left: u64) -> LumpPence
+    requires { ⌜ 0 < price ⌝ }
+    ensures { λ r. ⌜ r .0 ≡ min (cap .0) (left / price) ⌝ }
 {
-    let cap = row.cap;
-    let allowed = left / row.price;
+    let allowed = left / price;
     if cap.0 as u64 <= allowed {
         return cap;
     }
     LumpPence(allowed as u32)
 }
 
-// The row at a place has its turn.
-fn turn(rows: [Row; 4], place: usize, left: u64) -> Served
-    requires { ⌜ (place < 4) × (0 < rowAt rows place .price) ⌝ }
-    ensures { λ r. ⌜ (r .rows ≡ serve rows place (most (rowAt rows place) left)) × (r .left ≡ left - most (rowAt rows place) left * rowAt rows place .price) ⌝ }
+// The lumps of the first n pensions, which have their turns one after the other.
+fn take_turns(prices: &[u64; 4], caps: &[u32; 4], n: usize, limit: u64) -> [u32; 4]
+    requires { ⌜ (n ≤ 4) × (length (now prices) ≡ 4) × (length (now caps) ≡ 4) × ((j : ℕ) → j < n → 0 < getD (now prices) j 0) ⌝ }
+    ensures { λ r. ⌜ (take n r ≡ lumpsOf (turns n (take n (rowsIn (now (prices .entry)) (now (caps .entry)) (replicate 4 0) (replicate 4 true))) limit)) × (length r ≡ 4) ⌝ }
 {
-    let row = rows[place];
-    let lump = most_of(row, left);
-    let price = row.price;
-    let cap = row.cap;
-    let mut after = rows;
-    after[place] = Row {
-        price,
-        cap,
-        lump: LumpPence(lump.0),
-        waiting: false,
-    };
-    let spent = lump.0 as u64 * price;
-    Served {
-        rows: after,
-        left: left - spent,
-    }
-}
-
-// The first n rows after as many turns.
-fn granted_rows(rows: [Row; 4], n: usize, limit: u64) -> [Row; 4]
-    requires { ⌜ (n ≤ 4) × ((j : ℕ) → j < n → 0 < rowAt rows j .price) ⌝ }
-    ensures { λ r. ⌜ (take n r ≡ turns n (take n rows) limit) × (length r ≡ 4) ⌝ }
-{
-    let mut now = rows;
+    let mut lumps = [0u32; 4];
+    let mut waiting = [true; 4];
     let mut left = limit;
     let mut done = 0;
     while done < n {
-        let place = cheapest_row(now, n);
+        let place = cheapest_place(prices, &waiting, n);
         if n <= place {
-            return now;
+            return lumps;
         }
-        let next = turn(now, place, left);
-        now = next.rows;
-        left = next.left;
+        let price = prices[place];
+        let lump = most_of(LumpPence(caps[place]), price, left);
+        lumps[place] = lump.0;
+        waiting[place] = false;
+        let spent = lump.0 as u64 * price;
+        left -= spent;
         done += 1;
     }
-    now
+    lumps
 }
 
-// The first n pensions with the lumps granted.
-pub fn grant_of(benefits: [Benefit; 4], n: usize) -> [Row; 4]
+// The lumps granted to the first n pensions.
+pub fn grant_of(benefits: [Benefit; 4], n: usize) -> [u32; 4]
     requires { ⌜ (n ≤ 4) × ((j : ℕ) → j < n → FactorRange (getD benefits j noBenefit .factor)) × (totalPension (take n benefits) ≤ 50000000) ⌝ }
-    ensures { λ r. ⌜ (lumpsOf (take n r) ≡ grant (take n benefits)) × (length r ≡ 4) ⌝ }
+    ensures { λ r. ⌜ (take n r ≡ grant (take n benefits)) × (length r ≡ 4) ⌝ }
 {
-    let rows = rows_of(benefits, n);
-    let limit = limits::priced_limit(benefits, n);
-    granted_rows(rows, n, limit)
+    let mut prices = [0u64; 4];
+    let mut caps = [0u32; 4];
+    let mut total: u64 = 0;
+    let mut i = 0;
+    while i < n {
+        let benefit = benefits[i];
+        let factor = benefit.factor;
+        let cap = benefit.cap;
+        let pension = benefit.pension;
+        prices[i] = limits::price_of(factor);
+        caps[i] = cap.0;
+        total += pension.0 as u64;
+        i += 1;
+    }
+    take_turns(&prices, &caps, n, 20000000000 * total)
 }

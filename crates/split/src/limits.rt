@@ -12,7 +12,7 @@ ghost use Rattle.factors.specs.Effective.{FactorRange};
 ghost use Rattle.split.specs.Case.{noPension};
 ghost use Rattle.split.specs.Refusal.{ageOf};
 ghost use Rattle.split.specs.Benefits.{workedPension, workedTerms, factorOf, limitedLump, quarterLump, capOf, benefitOf, benefitsOf};
-ghost use Rattle.split.specs.Limits.{roundedUp, priceOf, totalPension, pricedLimit};
+ghost use Rattle.split.specs.Limits.{roundedUp, priceOf};
 
 // A pension of a case as the limits see it: P, E and the cap.
 pub struct Benefit {
@@ -139,20 +139,4 @@ pub fn price_of(e: Factor) -> u64
     ensures { λ r. ⌜ r ≡ priceOf e ⌝ }
 {
     3000000000 + rounded_up(20000000000 * e.bottom, e.top)
-}
-
-// The priced limit of the first n pensions.
-pub fn priced_limit(benefits: [Benefit; 4], n: usize) -> u64
-    requires { ⌜ (n ≤ 4) × (totalPension (take n benefits) ≤ 50000000) ⌝ }
-    ensures { λ r. ⌜ r ≡ pricedLimit (take n benefits) ⌝ }
-{
-    let mut total: u64 = 0;
-    let mut i = 0;
-    while i < n {
-        let benefit = benefits[i];
-        let pension = benefit.pension;
-        total += pension.0 as u64;
-        i += 1;
-    }
-    20000000000 * total
 }

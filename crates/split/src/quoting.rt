@@ -4,19 +4,17 @@ use crate::answers::Share;
 use crate::case::Head;
 use crate::case::Pension;
 use crate::grant;
-use crate::grant::Row;
 use crate::limits;
 use crate::limits::Benefit;
 use factors::money::LumpPence;
 use factors::money::YearlyPence;
 ghost use mathlib.Core.Path.{_≡_};
 ghost use Prim.Native.Nat.{_*_, _/_, _≤_, _<_};
-ghost use lib.ListN.{take};
+ghost use lib.ListN.{length, take};
 ghost use Rattle.split.specs.Refusal.{conditions};
 ghost use Rattle.calendar.specs.Tests.{lowest};
 ghost use Rattle.split.specs.Benefits.{benefitOf};
 ghost use Rattle.split.specs.Limits.{total};
-ghost use Rattle.split.specs.Grant.{lumpsOf};
 ghost use Rattle.split.specs.Quote.{remainingOf, secondOf, shareOf, sharesOf, padded, noShare, refusedQuote, grantedQuote};
 ghost use Rattle.split.specs.Ranges.{ShareRange, SharesRange};
 
@@ -72,19 +70,18 @@ fn shares_of(
     head: Head,
     pensions: [Pension; 4],
     benefits: [Benefit; 4],
-    rows: [Row; 4],
+    lumps: &[u32; 4],
     n: usize,
 ) -> [Share; 4]
-    requires { ⌜ SharesRange head pensions benefits rows n ⌝ }
-    ensures { λ r. ⌜ r ≡ padded (sharesOf head (take n pensions) (lumpsOf (take n rows))) ⌝ }
+    requires { ⌜ SharesRange head pensions benefits (now lumps) n × (length (now lumps) ≡ 4) ⌝ }
+    ensures { λ r. ⌜ r ≡ padded (sharesOf head (take n pensions) (take n (now (lumps .entry)))) ⌝ }
 {
     let mut shares = [no_share(); 4];
     let mut i = 0;
     while i < n {
         let pension = pensions[i];
         let benefit = benefits[i];
-        let row = rows[i];
-        let lump = row.lump;
+        let lump = LumpPence(lumps[i]);
         let share = share_of(head, pension, benefit, lump);
         shares[i] = share;
         i += 1;
@@ -92,17 +89,15 @@ fn shares_of(
     shares
 }
 
-// The lumps of the first n rows together.
-fn total_of(rows: [Row; 4], n: usize) -> LumpPence
-    requires { ⌜ (n ≤ 4) × (total (lumpsOf (take n rows)) ≤ 1000000000) ⌝ }
-    ensures { λ r. ⌜ r .0 ≡ total (lumpsOf (take n rows)) ⌝ }
+// The first n lumps together.
+fn total_of(lumps: &[u32; 4], n: usize) -> LumpPence
+    requires { ⌜ (n ≤ 4) × (length (now lumps) ≡ 4) × (total (take n (now lumps)) ≤ 1000000000) ⌝ }
+    ensures { λ r. ⌜ r .0 ≡ total (take n (now (lumps .entry))) ⌝ }
 {
     let mut sum: u32 = 0;
     let mut i = 0;
     while i < n {
-        let row = rows[i];
-        let lump = row.lump;
-        sum += lump.0;
+        sum += lumps[i];
         i += 1;
     }
     LumpPence(sum)
@@ -114,9 +109,9 @@ pub fn granted_quote(head: Head, pensions: [Pension; 4], n: usize) -> Quote
     ensures { λ r. ⌜ r ≡ grantedQuote head (take n pensions) ⌝ }
 {
     let benefits = limits::benefits_of(head, pensions, n);
-    let rows = grant::grant_of(benefits, n);
-    let total = total_of(rows, n);
-    let shares = shares_of(head, pensions, benefits, rows, n);
+    let lumps = grant::grant_of(benefits, n);
+    let total = total_of(&lumps, n);
+    let shares = shares_of(head, pensions, benefits, &lumps, n);
     Quote {
         refusal: 0,
         member: head.member,

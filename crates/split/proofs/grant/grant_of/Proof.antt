@@ -1,29 +1,146 @@
--- `grant_of` is the definition `grant`: as many turns of the first `n` rows as there are pensions.
-use mathlib.Core.Path.{_≡_}
+-- `grant_of` is the definition `grant`: prices, caps and the priced limit are worked out one pension after the other, and as
+-- many turns are taken as there are pensions.
+use Prim.Native.Nat.{ℕ, _+_, _-_, _*_, _≤_, _<_, zero-le}
+use mathlib.Core.List.{map}
+use mathlib.Core.Path.{_≡_, refl, _∙_, ap}
+use native.Mathlib.Nat.{le-trans, le-of-lt, lt-of-lt-of-le, mul-le-mul-left, mul-le-mul-right}
+use native.Mathlib.Numerals.{add-one-le}
 use native.Mathlib.Omega.{arith}
-use lib.ListN.{length}
+use lib.ListN.{length, getD, take, length-set}
 use borrow.Author.Needs.{needs}
-use Rattle.split.proofs.GrantLoop.{rows-priced, grant-made}
+use mir.Facts.{fits-below}
+use Rattle.calendar.proofs.SumsLaws.{sum-next, sum-part}
+use Rattle.split.specs.declared.limits.Benefit.{Benefit}
+use Rattle.split.specs.Limits.{noBenefit, priceOf, totalPension, pricedLimit}
+use Rattle.split.proofs.ListLoop.{map-stored, stored-at, up-to, fewer, at-end}
+use Rattle.split.proofs.Prices.{price-floor}
+use Rattle.split.proofs.ArraysLaws.{rows-start}
+use Rattle.split.proofs.GrantLoop.{grant-made}
 use Rattle.split.proofs.grant.grant_of.Statement.{statement}
 use Rattle.split.proofs.grant.grant_of.Tie as tie
 
-rows-of-requires : tie.Need-rows-of-requires
-rows-of-requires c κs = (c .pre .0, c .pre .1)
+-- the price and the cap of a pension
+abbrev price : Benefit → ℕ
+price b = priceOf (b .factor)
 
-granted-rows-requires : tie.Need-granted-rows-requires
-granted-rows-requires c κs =
+abbrev cap : Benefit → ℕ
+cap b = b .cap .0
+
+abbrev Inv-loop : tie.InvT-loop
+Inv-loop n benefits prices₀ caps₀ total₀ i₀ prices caps total i =
+    (i ≤ n) × (length prices ≡ 4) × (length caps ≡ 4) × (take i prices ≡ map price (take i benefits))
+    × (take i caps ≡ map cap (take i benefits)) × (total ≡ totalPension (take i benefits))
+
+abbrev μ-loop : tie.MeasureT-loop
+μ-loop n benefits prices₀ caps₀ total₀ i₀ prices caps total i = n - i
+
+loop-holds : tie.Need-loop-holds Inv-loop μ-loop
+loop-holds c = (zero-le, refl, refl, refl, refl, refl)
+
+-- a place in the loop is one of the four
+place : (c : tie.In-loop Inv-loop μ-loop) → c .before .loop .i < 4
+place c = lt-of-lt-of-le (c .loop-test .taken) (c .before .before .pre .0)
+
+-- which the pensions have
+four : (c : tie.Start Inv-loop μ-loop) → length (c .args .t1) ≡ 4
+four c = c .good .0 .1 .0 .1
+
+-- the total with the next pension
+next : (c : tie.In-loop Inv-loop μ-loop)
+    → c .before .loop .total + (getD (c .before .before .args .t1) (c .before .loop .i) noBenefit) .pension .0
+    ≡ totalPension (take (c .before .loop .i + 1) (c .before .before .args .t1))
+next c =
+    let l = c .before .loop in
+    let start = c .before .before in
+    sum-next (λ (b : Benefit). b .pension .0) (start .args .t1) noBenefit (l .i) (l .total) (up-to (start .args .t1) (four start) (place c)) (l .inv .5)
+
+-- a total of the first pensions is at most that of all
+within : (c : tie.At-loop Inv-loop μ-loop) (k t : ℕ) → k ≤ c .before .args .n → t ≡ totalPension (take k (c .before .args .t1))
+    → t ≤ 50000000
+within c k t h e =
+    rw e (le-trans (sum-part (λ (b : Benefit). b .pension .0) (c .before .args .t1) k (c .before .args .n) h) (c .before .pre .2))
+
+-- the turn of the loop that a place in it is in
+add-total : tie.Need-add-total Inv-loop μ-loop
+add-total c =
+    let test = c .before .before .before .before .before .before in
+    fits-below tt (within (test .before) (test .before .loop .i + 1) _ (add-one-le (test .loop-test .taken)) (next test))
+
+loop-again : tie.Need-loop-again Inv-loop μ-loop
+loop-again c =
+    let test = c .before .before .before .before .before .before in
+    let l = test .before .loop in
+    let start = test .before .before in
+    let inside = up-to (start .args .t1) (four start) (place test) in (
+      add-one-le (test .loop-test .taken),
+      length-set (l .prices) (l .i) (c .before .price-of .result) ∙ l .inv .1,
+      length-set (l .caps) (l .i) _ ∙ l .inv .2,
+      map-stored price (start .args .t1) (l .prices) (l .i) noBenefit (c .before .price-of .result) inside
+          (up-to (l .prices) (l .inv .1) (place test)) (l .inv .3) (c .before .price-of .ensures),
+      map-stored cap (start .args .t1) (l .caps) (l .i) noBenefit _ inside (up-to (l .caps) (l .inv .2) (place test)) (l .inv .4) refl,
+      next test,
+    )
+
+-- after the loop the prices and caps are those of the first n pensions
+priced : (c : tie.After-loop Inv-loop μ-loop)
+    → take (c .before .before .args .n) (c .before .loop .prices) ≡ map price (take (c .before .before .args .n) (c .before .before .args .t1))
+priced c =
+    let l = c .before .loop in
     let a = c .before .before .args in
-    let size : length (a .benefits) ≡ 4 = search needs in
-    (omega arith, rows-priced (a .benefits) _ (a .n) (omega arith) (c .before .rows-of .ensures .0))
+    at-end (λ (k : ℕ). take k (l .prices)) (λ (k : ℕ). map price (take k (a .t1))) (l .i) (a .n) (l .inv .0) (c .loop-test .left) (l .inv .3)
 
-returns : tie.Need-returns
+capped : (c : tie.After-loop Inv-loop μ-loop)
+    → take (c .before .before .args .n) (c .before .loop .caps) ≡ map cap (take (c .before .before .args .n) (c .before .before .args .t1))
+capped c =
+    let l = c .before .loop in
+    let a = c .before .before .args in
+    at-end (λ (k : ℕ). take k (l .caps)) (λ (k : ℕ). map cap (take k (a .t1))) (l .i) (a .n) (l .inv .0) (c .loop-test .left) (l .inv .4)
+
+price-at : (c : tie.After-loop Inv-loop μ-loop) (j : ℕ) → j < c .before .before .args .n
+    → getD (c .before .loop .prices) j 0 ≡ price (getD (c .before .before .args .t1) j noBenefit)
+price-at c j h =
+    let start = c .before .before in
+    stored-at price (start .args .t1) _ (start .args .n) j noBenefit 0 (up-to (start .args .t1) (four start) (start .pre .0)) h (priced c)
+
+take-turns-requires : tie.Need-take-turns-requires Inv-loop μ-loop
+take-turns-requires c κs =
+    let after = c .before .before in
+    let l = after .before .loop in (
+      after .before .before .pre .0,
+      l .inv .1,
+      l .inv .2,
+      λ j h. rw (price-at after j h) (omega (arith, price-floor ((getD (after .before .before .args .t1) j noBenefit) .factor))),
+    )
+
+returns : tie.Need-returns Inv-loop μ-loop
 returns c =
-    let a = c .before .before .before .args in
-    let size : length (a .benefits) ≡ 4 = search needs in (
-      grant-made (a .benefits) (a .n) _ _ _ (omega arith) (c .before .before .rows-of .ensures .0)
-          (c .before .priced-limit .ensures) (c .granted-rows .ensures .0),
-      c .granted-rows .ensures .1,
+    let after = c .before .before .before in
+    let l = after .before .loop in
+    let start = after .before .before in
+    let a = start .args in
+    let inside = up-to (a .t1) (four start) (start .pre .0) in
+    let limit : 20000000000 * l .total ≡ pricedLimit (take (a .n) (a .t1)) =
+    ap (λ (t : ℕ). 20000000000 * t)
+    (at-end (λ (k : ℕ). l .total) (λ (k : ℕ). totalPension (take k (a .t1))) (l .i) (a .n) (l .inv .0) (after .loop-test .left)
+    (l .inv .5))
+    in (
+      grant-made (a .t1) (a .n) _ _ _ inside
+          (rows-start (l .prices) (l .caps) (a .t1) 4 (a .n) (l .inv .1) (l .inv .2) (start .pre .0) inside (price-at after)
+          (λ j h. stored-at cap (a .t1) _ (a .n) j noBenefit 0 inside h (capped after)))
+          limit (c .take-turns .ensures .0),
+      c .take-turns .ensures .1,
     )
 
 pub grant-of-spec : {M : Type 1} → statement M
-grant-of-spec = tie.close (tie.spec rows-of-requires (search needs) granted-rows-requires returns)
+grant-of-spec =
+    tie.close
+    (tie.spec Inv-loop μ-loop loop-holds (λ c. fits-below tt (mul-le-mul-right 32 (le-of-lt (place c)))) place
+    (λ c κs. c .before .before .before .before .before .before .pre .1 _ (c .before .before .before .before .loop-test .taken))
+    (λ c. fits-below tt (mul-le-mul-right 8 (le-of-lt (place (c .before .before .before .before .before)))))
+    (λ c. place (c .before .before .before .before .before))
+    (λ c. fits-below tt (mul-le-mul-right 4 (le-of-lt (place (c .before .before .before .before .before)))))
+    (λ c. place (c .before .before .before .before .before)) (search needs) add-total
+    (λ c. fits-below tt (add-one-le (place (c .before .before .before .before .before .before))))
+    (λ c. fewer _ _ (c .before .before .before .before .before .before .loop-test .taken)) loop-again
+    (λ c. fits-below tt (mul-le-mul-left 20000000000 (within (c .before .before .before) (c .before .before .before .loop .i) _ (c .before .before .before .loop .inv .0) (c .before .before .before .loop .inv .5))))
+    take-turns-requires returns)

@@ -48,26 +48,32 @@ grant-of-requires c κs =
 
 total-of-requires : tie.Need-total-of-requires
 total-of-requires c κs =
-    let a = c .before .before .args in
-    let p = c .before .before .pre in
+    let granted = c .before in
+    let a = granted .before .before .args in
+    let p = granted .before .before .pre in
     let four : length (a .pensions) ≡ 4 = search needs in (
       p .0,
-      lumps-small (a .head) (a .pensions) (a .n) (p .0) four (p .1) (c .before .benefits-of .result) (c .before .benefits-of .ensures .0)
-          (c .grant-of .result) (c .grant-of .ensures .0),
+      granted .grant-of .ensures .1,
+      lumps-small (a .head) (a .pensions) (a .n) (p .0) four (p .1) (granted .before .benefits-of .result) (granted .before .benefits-of .ensures .0)
+          (granted .grant-of .result) (granted .grant-of .ensures .0),
     )
 
 shares-of-requires : tie.Need-shares-of-requires
 shares-of-requires c κs =
-    let a = c .before .before .before .args in
-    let p = c .before .before .before .pre in
-    let four : length (a .pensions) ≡ 4 = search needs in
-    shares-range (a .head) (a .pensions) (a .n) (p .0) four (p .1) (c .before .before .benefits-of .result)
-    (c .before .before .benefits-of .ensures .0) (c .before .grant-of .result) (c .before .grant-of .ensures .0)
+    let granted = c .before .before .before in
+    let a = granted .before .before .args in
+    let p = granted .before .before .pre in
+    let four : length (a .pensions) ≡ 4 = search needs in (
+      shares-range (a .head) (a .pensions) (a .n) (p .0) four (p .1) (granted .before .benefits-of .result)
+          (granted .before .benefits-of .ensures .0) (granted .grant-of .result) (granted .grant-of .ensures .0),
+      granted .grant-of .ensures .1,
+    )
 
 returns : tie.Need-returns
 returns c =
-    composed _ _ _ _ _ _ (c .before .before .before .benefits-of .ensures .0) (c .before .before .grant-of .ensures .0)
-    (c .before .total-of .ensures) (c .shares-of .ensures)
+    let granted = c .before .before .before .before in
+    composed _ _ _ _ _ _ (granted .before .benefits-of .ensures .0) (granted .grant-of .ensures .0)
+    (c .before .before .total-of .ensures) (c .shares-of .ensures)
 
 pub granted-quote-spec : {M : Type 1} → statement M
 granted-quote-spec =

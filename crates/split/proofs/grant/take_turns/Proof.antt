@@ -1,0 +1,100 @@
+-- `take_turns` takes the turns of the definition `turns`: those left from here give what all give from the start.
+use Prim.Native.Nat.{ℕ, _-_, _*_, _≤_, _<_, zero-le}
+use mathlib.Core.Bool.{Bool, true, false}
+use mathlib.Core.List.{List}
+use mathlib.Core.Path.{_≡_, refl, sym, _∙_, ap}
+use native.Mathlib.Nat.{le-refl, le-trans, sub-le, le-of-lt, lt-of-lt-of-le, sub-zero, sub-eq-zero-of-le, mul-le-mul-right}
+use native.Mathlib.Numerals.{add-one-le}
+use native.Mathlib.Omega.{arith}
+use lib.ListN.{length, getD, take, set, replicate, length-set}
+use borrow.Author.Needs.{needs}
+use mir.Facts.{fits-le, fits-below}
+use Rattle.split.specs.Grant.{Row, rowAt, most, turns, lumpsOf}
+use Rattle.split.specs.Arrays.{rowsIn}
+use Rattle.split.proofs.ListLoop.{one-fewer, fewer}
+use Rattle.split.proofs.ArraysLaws.{Sized, rows-counted, row-at, row-served, lumps-in}
+use Rattle.split.proofs.GrantLoop.{arrays-turn, lump-affordable, turns-idle}
+use Rattle.split.proofs.grant.take_turns.Statement.{statement}
+use Rattle.split.proofs.grant.take_turns.Tie as tie
+
+abbrev Inv-loop : tie.InvT-loop
+Inv-loop prices caps n limit lumps₀ waiting₀ left₀ done₀ lumps waiting left done =
+    (done ≤ n) × Sized prices caps lumps waiting 4
+    × (turns n (take n (rowsIn prices caps (replicate 4 0) (replicate 4 true))) limit
+    ≡ turns (n - done) (take n (rowsIn prices caps lumps waiting)) left)
+    × (left ≤ limit)
+
+abbrev μ-loop : tie.MeasureT-loop
+μ-loop prices caps n limit lumps₀ waiting₀ left₀ done₀ lumps waiting left done = n - done
+
+loop-holds : tie.Need-loop-holds Inv-loop μ-loop
+loop-holds c =
+    (zero-le, record { prices = c .pre .1; caps = c .pre .2; lumps = refl; waiting = refl }, simp sub-zero, le-refl (c .args .limit))
+
+-- the place of a turn is one of the four
+place : (c : tie.Else1 Inv-loop μ-loop) → c .before .cheapest-place .result < 4
+place c = lt-of-lt-of-le (c .if1 .left) (c .before .before .before .before .before .pre .0)
+
+-- what it costs is at most what is left
+affordable : (c : tie.After-struct-known Inv-loop μ-loop)
+    → c .before .most-of .result .0 * getD (c .before .before .before .before .before .before .before .before .before .args .prices .now) (c .before .before .before .before .before .cheapest-place .result) 0
+    ≤ c .before .before .before .before .before .before .before .before .loop .left
+affordable c = rw (c .before .most-of .ensures) (lump-affordable _ _ _)
+
+-- what the turns from here on give, when they change nothing
+granted : (c : tie.At-loop Inv-loop μ-loop) → turns (c .before .args .n - c .loop .done) (take (c .before .args .n) (rowsIn (c .before .args .prices .now) (c .before .args .caps .now) (c .loop .lumps) (c .loop .waiting))) (c .loop .left)
+    ≡ take (c .before .args .n) (rowsIn (c .before .args .prices .now) (c .before .args .caps .now) (c .loop .lumps) (c .loop .waiting))
+    → take (c .before .args .n) (c .loop .lumps)
+    ≡ lumpsOf (turns (c .before .args .n) (take (c .before .args .n) (rowsIn (c .before .args .prices .now) (c .before .args .caps .now) (replicate 4 0) (replicate 4 true))) (c .before .args .limit))
+granted c idle =
+    sym (ap lumpsOf (c .loop .inv .2 ∙ idle) ∙ lumps-in _ _ (c .loop .lumps) (c .loop .waiting) 4 (c .before .args .n) (c .loop .inv .1))
+
+-- no row waits
+returns : tie.Need-returns Inv-loop μ-loop
+returns c =
+    let l = c .before .before .before .before in
+    let found = c .before .cheapest-place .ensures (l .before .args .caps .now) (l .loop .lumps) (l .before .pre .2) (l .loop .inv .1 .lumps) in
+    (granted l (turns-idle (l .before .args .n) _ _ _ (omega (arith, found, c .if1 .taken))), l .loop .inv .1 .lumps)
+
+loop-again : tie.Need-loop-again Inv-loop μ-loop
+loop-again c =
+    let e = c .before .before .before .before in
+    let test = e .before .before .before in
+    let l = test .before in
+    let n = l .before .args .n in
+    let sized = l .loop .inv .1 in
+    let found = e .before .cheapest-place .ensures (l .before .args .caps .now) (l .loop .lumps) (l .before .pre .2) (sized .lumps) in (
+      add-one-le (test .loop-test .taken),
+      record {
+        prices = sized .prices;
+        caps = sized .caps;
+        lumps = length-set (l .loop .lumps) _ _ ∙ sized .lumps;
+        waiting = length-set (l .loop .waiting) _ _ ∙ sized .waiting;
+      },
+      l .loop .inv .2
+          ∙ arrays-turn _ _ (l .loop .lumps) (l .loop .waiting) n (n - l .loop .done) _ _ (l .loop .left) _ sized
+          (one-fewer (l .loop .done) n (test .loop-test .taken)) (e .if1 .left) (l .before .pre .0) found (c .before .most-of .ensures),
+      le-trans (sub-le _ _) (l .loop .inv .3),
+    )
+
+-- no turn is left
+returns-2 : tie.Need-returns-2 Inv-loop μ-loop
+unfolding turns
+returns-2 c =
+    let l = c .before .loop in
+    let a = c .before .before .args in
+    (granted (c .before) (ap (λ (m : ℕ). turns m (take (a .n) (rowsIn (a .prices .now) (a .caps .now) (l .lumps) (l .waiting))) (l .left)) (sub-eq-zero-of-le (c .loop-test .left))), l .inv .1 .lumps)
+
+pub take-turns-spec : {M : Type 1} → statement M
+take-turns-spec =
+    tie.close
+    (tie.spec Inv-loop μ-loop loop-holds
+    (λ c κs. (c .before .before .before .pre .0, c .before .before .before .pre .1, c .before .before .loop .inv .1 .waiting)) returns
+    (λ c. fits-below tt (mul-le-mul-right 8 (le-of-lt (place c)))) place
+    (λ c. fits-below tt (mul-le-mul-right 4 (le-of-lt (place (c .before))))) (λ c. place (c .before))
+    (λ c κs. c .before .before .before .before .before .before .before .pre .3 _ (c .before .before .if1 .left))
+    (λ c. fits-below tt (mul-le-mul-right 4 (le-of-lt (place (c .before .before .before)))))
+    (λ c. place (c .before .before .before)) (λ c. place (c .before .before .before)) (search needs)
+    (λ c. fits-le (le-trans (affordable c) (c .before .before .before .before .before .before .before .before .loop .inv .3)) (c .before .before .before .before .before .before .before .before .before .fits .limit)) affordable
+    (λ c. fits-below tt (add-one-le (lt-of-lt-of-le (c .before .before .before .before .before .before .before .loop-test .taken) (c .before .before .before .before .before .before .before .before .before .pre .0))))
+    (λ c. fewer _ _ (c .before .before .before .before .before .before .before .loop-test .taken)) loop-again returns-2)
