@@ -19,11 +19,11 @@ table1-range age low high =
     (below-at 240 (λ (k : ℕ). leb 1306 (straightLine k) && leb (straightLine k) 2540) refl (age - 636) (omega arith)))
 
 -- F1, given or looked up
-looked-up : (given age : ℕ) → eqb given 0 ≡ true → commutationFactor given age ≡ table1 age
+pub looked-up : (given age : ℕ) → eqb given 0 ≡ true → commutationFactor given age ≡ table1 age
 unfolding commutationFactor
 looked-up given age e = simp e
 
-as-given : (given age : ℕ) → eqb given 0 ≡ false → commutationFactor given age ≡ given
+pub as-given : (given age : ℕ) → eqb given 0 ≡ false → commutationFactor given age ≡ given
 unfolding commutationFactor
 as-given given age e = simp e
 

@@ -1,13 +1,14 @@
 -- Laws of a pension as the limits see it: it, its factor and its cap as the code works them out are those of the
 -- definitions, a cap is at most a quarter's lump, which is at most twenty pensions, and each pension is at its place.
 -- Assumes nothing.
-use Prim.Native.Nat.{ℕ, _*_, _/_, _≤_, _<_}
-use mathlib.Core.Bool.{Bool, true, false, _&&_}
+use Prim.Native.Nat.{ℕ, _*_, _/_, _≤_, _<_, min}
+use mathlib.Core.Bool.{Bool, true, false, cond, _&&_}
 use mathlib.Core.List.{List}
 use mathlib.Core.Path.{_≡_, refl, sym, _∙_, ap}
 use native.Mathlib.Nat.{div-le-of-le-mul, mul-le-mul-left}
 use native.Mathlib.Omega.{arith}
 use lib.Dec.{eqb, ltb}
+use borrow.Author.Tests.{eq-eqb, ne-eqb}
 use lib.ListN.{length, getD, take}
 use Rattle.calendar.specs.Calendar.{months, sixtiethBirthday}
 use Rattle.factors.specs.declared.effective.FactorTerms.{FactorTerms}
@@ -16,6 +17,8 @@ use Rattle.factors.specs.declared.money.YearlyPence.{YearlyPence}
 use Rattle.factors.specs.declared.effective.Factor.{Factor}
 use Rattle.factors.specs.Effective.{FactorRange, effectiveFactor}
 use Rattle.factors.specs.EarlyPayment.{reducedPension}
+use Rattle.factors.specs.Commutation.{table1, commutationFactor}
+use Rattle.factors.proofs.CommutationLaws.{looked-up, as-given}
 use Rattle.split.specs.declared.case.Head.{Head}
 use Rattle.split.specs.declared.case.Pension.{Pension}
 use Rattle.split.specs.declared.limits.Benefit.{Benefit}
@@ -50,21 +53,27 @@ unfolding capOf
 cap-quarter true pension e = omega arith
 cap-quarter false pension e = omega arith
 
--- the cap by its branches
-pub cap-most : (limited : Bool) (pension quarter : ℕ) (e : Factor) → limited ≡ true → quarter ≡ quarterLump pension e
-    → 9 * pension / 4 < quarter → 9 * pension / 4 ≡ capOf limited pension e
+-- the cap, as the lower of what was chosen and the quarter's lump
+pub cap-chosen : (limited : Bool) (pension quarter most : ℕ) (e : Factor) → quarter ≡ quarterLump pension e
+    → most ≡ cond limited (9 * pension / 4) quarter → min most quarter ≡ capOf limited pension e
 unfolding capOf
-cap-most limited pension quarter e t q h = rw t (omega arith)
+cap-chosen true pension quarter most e q m = omega arith
+cap-chosen false pension quarter most e q m = omega arith
 
-pub cap-within : (limited : Bool) (pension quarter : ℕ) (e : Factor) → limited ≡ true → quarter ≡ quarterLump pension e
-    → quarter ≤ 9 * pension / 4 → quarter ≡ capOf limited pension e
-unfolding capOf
-cap-within limited pension quarter e t q h = rw t (omega arith)
+-- terms with F1 as given, or the table's factor at the age
+pub terms-looked-up : (age found : ℕ) (t : FactorTerms) → t .f1 ≡ 0 → found ≡ table1 age
+    → _≡_ {A = FactorTerms} (record { f1 = found; f2 = t .f2; f3 = t .f3; increase = t .increase }) (workedTerms age t)
+unfolding workedTerms
+terms-looked-up age found t none e =
+    let f1 : found ≡ commutationFactor (t .f1) age = e ∙ sym (looked-up (t .f1) age (eq-eqb (t .f1) 0 none)) in
+    λ i. record { f1 = f1 i; f2 = t .f2; f3 = t .f3; increase = t .increase }
 
-pub cap-unlimited : (limited : Bool) (pension quarter : ℕ) (e : Factor) → limited ≡ false
-    → quarter ≡ quarterLump pension e → quarter ≡ capOf limited pension e
-unfolding capOf
-cap-unlimited limited pension quarter e t q = rw t q
+pub terms-given : (age : ℕ) (t : FactorTerms) → (t .f1 ≡ 0 → ⊥)
+    → _≡_ {A = FactorTerms} (record { f1 = t .f1; f2 = t .f2; f3 = t .f3; increase = t .increase }) (workedTerms age t)
+unfolding workedTerms
+terms-given age t some =
+    let f1 : t .f1 ≡ commutationFactor (t .f1) age = sym (as-given (t .f1) age (ne-eqb (t .f1) 0 some)) in
+    λ i. record { f1 = f1 i; f2 = t .f2; f3 = t .f3; increase = t .increase }
 
 -- the factor of worked terms
 pub factor-made : (age : ℕ) (p : Pension) (t : FactorTerms) (e : Factor) → t ≡ workedTerms age (p .terms)

@@ -8,6 +8,7 @@ use factors::money::YearlyPence;
 ghost use mathlib.Core.Path.{_≡_};
 ghost use Prim.Native.Nat.{ℕ, _+_, _*_, _≤_, _<_};
 ghost use lib.ListN.{length, getD, take};
+ghost use Rattle.factors.specs.Commutation.{table1};
 ghost use Rattle.factors.specs.Effective.{FactorRange};
 ghost use Rattle.split.specs.Case.{noPension};
 ghost use Rattle.split.specs.Refusal.{ageOf};
@@ -37,12 +38,13 @@ fn worked_pension(head: Head, age: u32, p: Pension) -> YearlyPence
     stated
 }
 
-// The terms with F1 as given or looked up.
-fn worked_terms(age: u32, t: FactorTerms) -> FactorTerms
-    ensures { λ r. ⌜ r ≡ workedTerms age t ⌝ }
+// The terms with F1 as given, or as it was looked up at the age.
+fn worked_terms(found: u16, t: FactorTerms) -> FactorTerms
+    ensures { λ r. ⌜ ((age : ℕ) → found ≡ table1 age → r ≡ workedTerms age t) ⌝ }
 {
+    let f1 = if t.f1 == 0 { found } else { t.f1 };
     FactorTerms {
-        f1: factors::commutation::commutation_factor(t.f1, age),
+        f1,
         f2: t.f2,
         f3: t.f3,
         increase: t.increase,
@@ -70,28 +72,28 @@ fn quarter_lump(pension: YearlyPence, e: Factor) -> LumpPence
     LumpPence((pension.0 as u64 * e.top / (4 * e.bottom)) as u32)
 }
 
-// The cap of a pension.
+// The cap of a pension. Ready values are chosen: a branch on whether the cap applies can't be foreseen.
 fn cap_of(limited: bool, pension: YearlyPence, e: Factor) -> LumpPence
     requires { ⌜ (pension .0 ≤ 50000000) × FactorRange e ⌝ }
     ensures { λ r. ⌜ r .0 ≡ capOf limited (pension .0) e ⌝ }
 {
     let quarter = quarter_lump(pension, e);
-    if limited {
-        let most = 9 * pension.0 / 4;
-        if most < quarter.0 {
-            return LumpPence(most);
-        }
-    }
-    quarter
+    let most = if limited {
+        9 * pension.0 / 4
+    } else {
+        quarter.0
+    };
+    let lower = if most < quarter.0 { most } else { quarter.0 };
+    LumpPence(lower)
 }
 
-fn benefit_of(head: Head, age: u32, p: Pension) -> Benefit
-    requires { ⌜ (age ≡ ageOf head) × (workedPension head p ≤ 50000000) × FactorRange (factorOf age p) ⌝ }
+fn benefit_of(head: Head, age: u32, found: u16, p: Pension) -> Benefit
+    requires { ⌜ (age ≡ ageOf head) × (found ≡ table1 age) × (workedPension head p ≤ 50000000) × FactorRange (factorOf age p) ⌝ }
     ensures { λ r. ⌜ r ≡ benefitOf head p ⌝ }
 {
     let pension = worked_pension(head, age, p);
     let given = p.terms;
-    let terms = worked_terms(age, given);
+    let terms = worked_terms(found, given);
     let factor = factors::effective::effective_factor(p.kind, terms);
     let cap = cap_of(is_limited(p), pension, factor);
     Benefit {
@@ -109,6 +111,7 @@ pub fn benefits_of(head: Head, pensions: [Pension; 4], n: usize) -> [Benefit; 4]
     let birth = head.birth;
     let commencement = head.commencement;
     let age = calendar::months_between(birth, commencement);
+    let found = factors::commutation::table_factor(age);
     let blank = Benefit {
         pension: YearlyPence(0),
         factor: Factor { top: 0, bottom: 0 },
@@ -118,7 +121,7 @@ pub fn benefits_of(head: Head, pensions: [Pension; 4], n: usize) -> [Benefit; 4]
     let mut i = 0;
     while i < n {
         let pension = pensions[i];
-        let benefit = benefit_of(head, age, pension);
+        let benefit = benefit_of(head, age, found, pension);
         benefits[i] = benefit;
         i += 1;
     }

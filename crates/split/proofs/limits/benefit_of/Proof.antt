@@ -10,12 +10,14 @@ use Rattle.split.proofs.limits.benefit_of.Tie as tie
 factor : (c : tie.After-effective-factor)
     → c .effective-factor .result
     ≡ factorOf (c .before .before .before .before .args .age) (c .before .before .before .before .args .p)
-factor c = factor-made _ _ _ _ (c .before .worked-terms .ensures) (c .effective-factor .ensures)
+factor c =
+    let start = c .before .before .before .before in
+    factor-made _ _ _ _ (c .before .worked-terms .ensures (start .args .age) (start .pre .1)) (c .effective-factor .ensures)
 
 cap-of-requires : tie.Need-cap-of-requires
 cap-of-requires c κs =
     let pre = c .before .before .before .before .before .pre in
-    (rw (c .before .before .before .before .worked-pension .ensures) (pre .1), rw (factor (c .before)) (pre .2))
+    (rw (c .before .before .before .before .worked-pension .ensures) (pre .2), rw (factor (c .before)) (pre .3))
 
 returns : tie.Need-returns
 returns c =

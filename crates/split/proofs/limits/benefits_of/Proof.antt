@@ -14,33 +14,38 @@ use Rattle.split.proofs.limits.benefits_of.Statement.{statement}
 use Rattle.split.proofs.limits.benefits_of.Tie as tie
 
 abbrev Inv-loop : tie.InvT-loop
-Inv-loop head n pensions age benefits₀ i₀ benefits i =
+Inv-loop head n pensions age found benefits₀ i₀ benefits i =
     (i ≤ n) × (length benefits ≡ 4) × (take i benefits ≡ benefitsOf head (take i pensions))
 
 abbrev μ-loop : tie.MeasureT-loop
-μ-loop head n pensions age benefits₀ i₀ benefits i = n - i
+μ-loop head n pensions age found benefits₀ i₀ benefits i = n - i
 
 loop-holds : tie.Need-loop-holds Inv-loop μ-loop
 loop-holds c = (zero-le, refl, refl)
 
 -- a place in the loop is one of the four
 place : (c : tie.In-loop Inv-loop μ-loop) → c .before .loop .i < 4
-place c = lt-of-lt-of-le (c .loop-test .taken) (c .before .before .before .before .before .pre .0)
+place c = lt-of-lt-of-le (c .loop-test .taken) (c .before .before .before .before .before .before .pre .0)
 
 benefit-of-requires : tie.Need-benefit-of-requires Inv-loop μ-loop
 unfolding ageOf
 benefit-of-requires c κs =
-    let age = c .before .before .before .months-between .ensures in
-    let start = c .before .before .before .before .before .before in
+    let looked-up = c .before .before .before in
+    let age = looked-up .before .months-between .ensures in
+    let start = looked-up .before .before .before .before in
     let i = c .before .before .loop .i in
-    let range = start .pre .1 i (c .before .loop-test .taken) in
-    (age, range .0, subst (λ (a : ℕ). FactorRange (factorOf a (getD (start .args .t2) i noPension))) (sym age) (range .1))
+    let range = start .pre .1 i (c .before .loop-test .taken) in (
+      age,
+      looked-up .table-factor .ensures,
+      range .0,
+      subst (λ (a : ℕ). FactorRange (factorOf a (getD (start .args .t2) i noPension))) (sym age) (range .1),
+    )
 
 loop-again : tie.Need-loop-again Inv-loop μ-loop
 loop-again c =
     let test = c .before .before in
     let l = test .before .loop in
-    let start = test .before .before .before .before .before in
+    let start = test .before .before .before .before .before .before in
     let four : length (start .args .t2) ≡ 4 = start .good .1 .0 .1 .0 .1 in (
       add-one-le (test .loop-test .taken),
       length-set (l .benefits) (l .i) (c .benefit-of .result) ∙ l .inv .1,
@@ -52,7 +57,7 @@ loop-again c =
 returns : tie.Need-returns Inv-loop μ-loop
 returns c =
     let l = c .before .loop in
-    let a = c .before .before .before .before .before .args in (
+    let a = c .before .before .before .before .before .before .args in (
       at-end (λ (k : ℕ). take k (l .benefits)) (λ (k : ℕ). benefitsOf (a .head) (take k (a .t2))) (l .i) (a .n) (l .inv .0)
           (c .loop-test .left) (l .inv .2),
       l .inv .1,
@@ -61,7 +66,7 @@ returns c =
 pub benefits-of-spec : {M : Type 1} → statement M
 benefits-of-spec =
     tie.close
-    (tie.spec Inv-loop μ-loop (λ c κs. tt) loop-holds
+    (tie.spec Inv-loop μ-loop (λ c κs. tt) (λ c κs. tt) loop-holds
     (λ c. fits-below tt (mul-le-mul-right 28 (le-of-lt (place c)))) place benefit-of-requires
     (λ c. fits-below tt (mul-le-mul-right 32 (le-of-lt (place (c .before .before)))))
     (λ c. place (c .before .before)) (λ c. fits-below tt (add-one-le (place (c .before .before))))
