@@ -52,19 +52,18 @@ fn most_of(cap: LumpPence, price: u64, left: u64) -> LumpPence
     LumpPence(allowed as u32)
 }
 
-// The lumps of the first n pensions, which have their turns one after the other.
-fn take_turns(prices: &[u64; 4], caps: &[u32; 4], n: usize, limit: u64) -> [u32; 4]
-    requires { ⌜ (n ≤ 4) × (length (now prices) ≡ 4) × (length (now caps) ≡ 4) × ((j : ℕ) → j < n → 0 < getD (now prices) j 0) ⌝ }
-    ensures { λ r. ⌜ (take n r ≡ lumpsOf (turns n (take n (rowsIn (now (prices .entry)) (now (caps .entry)) (replicate 4 0) (replicate 4 true))) limit)) × (length r ≡ 4) ⌝ }
+// The first n pensions have their turns one after the other, and are given their lumps.
+fn take_turns(prices: &[u64; 4], caps: &[u32; 4], n: usize, limit: u64, lumps: &mut [u32; 4])
+    requires { ⌜ (n ≤ 4) × (length (now prices) ≡ 4) × (length (now caps) ≡ 4) × ((j : ℕ) → j < n → 0 < getD (now prices) j 0) × (now lumps ≡ replicate 4 0) ⌝ }
+    ensures { λ _. ⌜ (take n (now (lumps .exit)) ≡ lumpsOf (turns n (take n (rowsIn (now (prices .entry)) (now (caps .entry)) (replicate 4 0) (replicate 4 true))) limit)) × (length (now (lumps .exit)) ≡ 4) ⌝ }
 {
-    let mut lumps = [0u32; 4];
     let mut waiting = [true; 4];
     let mut left = limit;
     let mut done = 0;
     while done < n {
         let place = cheapest_place(prices, &waiting, n);
         if n <= place {
-            return lumps;
+            return;
         }
         let price = prices[place];
         let lump = most_of(LumpPence(caps[place]), price, left);
@@ -74,13 +73,12 @@ fn take_turns(prices: &[u64; 4], caps: &[u32; 4], n: usize, limit: u64) -> [u32;
         left -= spent;
         done += 1;
     }
-    lumps
 }
 
-// The lumps granted to the first n pensions.
-pub fn grant_of(benefits: [Benefit; 4], n: usize) -> [u32; 4]
-    requires { ⌜ (n ≤ 4) × ((j : ℕ) → j < n → FactorRange (getD benefits j noBenefit .factor)) × (totalPension (take n benefits) ≤ 50000000) ⌝ }
-    ensures { λ r. ⌜ (take n r ≡ grant (take n benefits)) × (length r ≡ 4) ⌝ }
+// Grants the first n pensions their lumps, which are zero before.
+pub fn grant_of(benefits: [Benefit; 4], n: usize, lumps: &mut [u32; 4])
+    requires { ⌜ (n ≤ 4) × ((j : ℕ) → j < n → FactorRange (getD benefits j noBenefit .factor)) × (totalPension (take n benefits) ≤ 50000000) × (now lumps ≡ replicate 4 0) ⌝ }
+    ensures { λ _. ⌜ (take n (now (lumps .exit)) ≡ grant (take n benefits)) × (length (now (lumps .exit)) ≡ 4) ⌝ }
 {
     let mut prices = [0u64; 4];
     let mut caps = [0u32; 4];
@@ -96,5 +94,5 @@ pub fn grant_of(benefits: [Benefit; 4], n: usize) -> [u32; 4]
         total += pension.0 as u64;
         i += 1;
     }
-    take_turns(&prices, &caps, n, 20000000000 * total)
+    take_turns(&prices, &caps, n, 20000000000 * total, lumps);
 }

@@ -109,7 +109,8 @@ pub fn granted_quote(head: Head, pensions: [Pension; 4], n: usize) -> Quote
     ensures { λ r. ⌜ r ≡ grantedQuote head (take n pensions) ⌝ }
 {
     let benefits = limits::benefits_of(head, pensions, n);
-    let lumps = grant::grant_of(benefits, n);
+    let mut lumps = [0u32; 4];
+    grant::grant_of(benefits, n, &mut lumps);
     let total = total_of(&lumps, n);
     let shares = shares_of(head, pensions, benefits, &lumps, n);
     Quote {

@@ -27,12 +27,12 @@ abbrev cap : Benefit → ℕ
 cap b = b .cap .0
 
 abbrev Inv-loop : tie.InvT-loop
-Inv-loop n benefits prices₀ caps₀ total₀ i₀ prices caps total i =
+Inv-loop n lumps benefits prices₀ caps₀ total₀ i₀ prices caps total i =
     (i ≤ n) × (length prices ≡ 4) × (length caps ≡ 4) × (take i prices ≡ map price (take i benefits))
     × (take i caps ≡ map cap (take i benefits)) × (total ≡ totalPension (take i benefits))
 
 abbrev μ-loop : tie.MeasureT-loop
-μ-loop n benefits prices₀ caps₀ total₀ i₀ prices caps total i = n - i
+μ-loop n lumps benefits prices₀ caps₀ total₀ i₀ prices caps total i = n - i
 
 loop-holds : tie.Need-loop-holds Inv-loop μ-loop
 loop-holds c = (zero-le, refl, refl, refl, refl, refl)
@@ -104,17 +104,18 @@ price-at c j h =
 
 take-turns-requires : tie.Need-take-turns-requires Inv-loop μ-loop
 take-turns-requires c κs =
-    let after = c .before .before in
+    let after = c .before .before .before in
     let l = after .before .loop in (
       after .before .before .pre .0,
       l .inv .1,
       l .inv .2,
       λ j h. rw (price-at after j h) (omega (arith, price-floor ((getD (after .before .before .args .t1) j noBenefit) .factor))),
+      after .before .before .pre .3,
     )
 
 returns : tie.Need-returns Inv-loop μ-loop
 returns c =
-    let after = c .before .before .before in
+    let after = c .before .before .before .before in
     let l = after .before .loop in
     let start = after .before .before in
     let a = start .args in

@@ -29,7 +29,12 @@ abbrev μ-loop : tie.MeasureT-loop
 
 loop-holds : tie.Need-loop-holds Inv-loop μ-loop
 loop-holds c =
-    (zero-le, record { prices = c .pre .1; caps = c .pre .2; lumps = refl; waiting = refl }, simp sub-zero, le-refl (c .args .limit))
+    let none = c .pre .4 in (
+      zero-le,
+      record { prices = c .pre .1; caps = c .pre .2; lumps = ap length none; waiting = refl },
+      rw (none, sub-zero (c .args .n)),
+      le-refl (c .args .limit),
+    )
 
 -- the place of a turn is one of the four
 place : (c : tie.Else1 Inv-loop μ-loop) → c .before .cheapest-place .result < 4

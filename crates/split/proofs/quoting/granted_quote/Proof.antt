@@ -1,7 +1,7 @@
 -- `granted_quote` is the grant of an accepted case: what each callee asks holds of such a case, and their promises compose.
 use borrow.Author.Needs.{needs}
 use mathlib.Core.List.{List}
-use mathlib.Core.Path.{_≡_, _∙_, ap}
+use mathlib.Core.Path.{_≡_, refl, _∙_, ap}
 use Prim.Native.Nat.{ℕ}
 use lib.ListN.{length}
 use Rattle.factors.specs.declared.money.LumpPence.{LumpPence}
@@ -40,39 +40,42 @@ benefits-of-requires c κs =
 
 grant-of-requires : tie.Need-grant-of-requires
 grant-of-requires c κs =
-    let a = c .before .args in
-    let p = c .before .pre in
+    let worked = c .before in
+    let a = worked .before .args in
+    let p = worked .before .pre in
     let four : length (a .pensions) ≡ 4 = search needs in
-    let range = grant-in-range (a .head) (a .pensions) (a .n) (p .0) four (p .1) (c .benefits-of .result) (c .benefits-of .ensures .0) in
-    (p .0, range .0, range .1)
+    let range = grant-in-range (a .head) (a .pensions) (a .n) (p .0) four (p .1) (worked .benefits-of .result) (worked .benefits-of .ensures .0) in
+    (p .0, range .0, range .1, refl)
 
 total-of-requires : tie.Need-total-of-requires
 total-of-requires c κs =
     let granted = c .before in
-    let a = granted .before .before .args in
-    let p = granted .before .before .pre in
+    let worked = granted .before .before in
+    let a = worked .before .args in
+    let p = worked .before .pre in
     let four : length (a .pensions) ≡ 4 = search needs in (
       p .0,
       granted .grant-of .ensures .1,
-      lumps-small (a .head) (a .pensions) (a .n) (p .0) four (p .1) (granted .before .benefits-of .result) (granted .before .benefits-of .ensures .0)
-          (granted .grant-of .result) (granted .grant-of .ensures .0),
+      lumps-small (a .head) (a .pensions) (a .n) (p .0) four (p .1) (worked .benefits-of .result) (worked .benefits-of .ensures .0)
+          _ (granted .grant-of .ensures .0),
     )
 
 shares-of-requires : tie.Need-shares-of-requires
 shares-of-requires c κs =
     let granted = c .before .before .before in
-    let a = granted .before .before .args in
-    let p = granted .before .before .pre in
+    let worked = granted .before .before in
+    let a = worked .before .args in
+    let p = worked .before .pre in
     let four : length (a .pensions) ≡ 4 = search needs in (
-      shares-range (a .head) (a .pensions) (a .n) (p .0) four (p .1) (granted .before .benefits-of .result)
-          (granted .before .benefits-of .ensures .0) (granted .grant-of .result) (granted .grant-of .ensures .0),
+      shares-range (a .head) (a .pensions) (a .n) (p .0) four (p .1) (worked .benefits-of .result)
+          (worked .benefits-of .ensures .0) _ (granted .grant-of .ensures .0),
       granted .grant-of .ensures .1,
     )
 
 returns : tie.Need-returns
 returns c =
     let granted = c .before .before .before .before in
-    composed _ _ _ _ _ _ (granted .before .benefits-of .ensures .0) (granted .grant-of .ensures .0)
+    composed _ _ _ _ _ _ (granted .before .before .benefits-of .ensures .0) (granted .grant-of .ensures .0)
     (c .before .before .total-of .ensures) (c .shares-of .ensures)
 
 pub granted-quote-spec : {M : Type 1} → statement M
