@@ -1,15 +1,15 @@
 -- Laws of tests: both parts of "and" and of "or", a test of some element of a list by its places, by the next element, by
 -- one more at the end or over two lists, a range by its bounds, and what no condition says. Each by cases or by induction on
 -- the list. Assumes nothing.
-use Prim.Native.Nat.{ℕ, zero, suc, _+_, _≤_, _<_}
+use Prim.Native.Nat.{ℕ, zero, suc, _+_, _-_, _≤_, _<_}
 use mathlib.Core.Path.{_≡_, refl, sym, _∙_, ap}
-use mathlib.Core.Bool.{Bool, true, false, cond, _&&_, _||_, or-false, or-assoc, true≢false, false≢true}
+use mathlib.Core.Bool.{Bool, true, false, cond, _&&_, _||_, or-true, or-false, or-assoc, true≢false, false≢true}
 use mathlib.Core.List.{List, [], _∷_, _++_}
 use native.Mathlib.Numerals.{add-one}
 use native.Mathlib.Omega.{arith}
 use lib.Dec.{leb, eqb}
-use lib.ListN.{length, getD, drop, drop-of-length-le}
-use lib.Seq.{drop-cons}
+use lib.ListN.{length, getD, take, drop, take-append-drop, drop-of-length-le}
+use lib.Seq.{drop-cons, drop-drop}
 use borrow.Author.Tests.{leb-true, lt-leb, eqb-true, eqb-false, ne-eqb}
 use Rattle.calendar.specs.Tests.{any, within, lowest}
 
@@ -67,13 +67,28 @@ pub flag-all : {A : Type 0} (f : A → Bool) (l : List A) (i : ℕ) (whole flag 
     → whole ≡ (flag || any f (drop i l)) → flag ≡ whole
 flag-all f l i whole flag h rest = sym (rest ∙ rw (drop-of-length-le l h) (or-false flag))
 
--- of two lists one after the other, and with one more element at the end
+-- of two lists one after the other, of the two parts of one, and with one more element at the end
 pub any-append : {A : Type 0} (f : A → Bool) (l m : List A) → any f (l ++ m) ≡ (any f l || any f m)
 any-append f [] m = refl
 any-append f (x ∷ l) m = ap (λ (b : Bool). f x || b) (any-append f l m) ∙ sym (or-assoc (f x) (any f l) (any f m))
 
+any-parts : {A : Type 0} (f : A → Bool) (l : List A) (i : ℕ) → any f l ≡ (any f (take i l) || any f (drop i l))
+any-parts f l i = rw (← any-append, take-append-drop)
+
 pub any-snoc : {A : Type 0} (f : A → Bool) (l : List A) (x : A) → any f (l ++ (x ∷ [])) ≡ (any f l || f x)
 any-snoc f l x = any-append f l (x ∷ []) ∙ ap (λ (b : Bool). any f l || b) (or-false (f x))
+
+-- a flag and the rest from a place on answer for the whole also from any place before
+pub flag-again : {A : Type 0} (f : A → Bool) (l : List A) (i j : ℕ) (flag : Bool) → j ≤ i → any f l ≡ (flag || any f (drop i l))
+    → any f l ≡ (flag || any f (drop j l))
+flag-again f l i j flag h rest = go (any f (take (i - j) (drop j l))) refl
+  where
+    later : any f (drop j l) ≡ (any f (take (i - j) (drop j l)) || any f (drop i l))
+    later = let back : j + (i - j) ≡ i = omega arith in any-parts f (drop j l) (i - j) ∙ rw (drop-drop, back)
+
+    go : (b : Bool) → any f (take (i - j) (drop j l)) ≡ b → any f l ≡ (flag || any f (drop j l))
+    go true e = any-parts f l j ∙ simp (later, e, or-true)
+    go false e = rest ∙ simp (later, e)
 
 -- a test that holds of no element fails of each
 pub any-none : {A : Type 0} (f : A → Bool) (l : List A) (d : A) → any f l ≡ false → (j : ℕ) → j < length l

@@ -6,8 +6,8 @@ use native.Mathlib.Numerals.{add-one}
 use native.Mathlib.Omega.{arith}
 use lib.ListN.{length, set, length-append}
 use Rattle.split.specs.declared.case.Pension.{Pension}
-use Rattle.split.specs.Case.{pensionAt, pensionsAt, placesAt, noPension, caseLength}
-use Rattle.split.specs.Digits.{FieldOf}
+use Rattle.split.specs.Case.{pensionAt, pensionsAt, placesAt, noPension, pensionLength, caseLength}
+use Rattle.split.specs.Bytes.{FieldOf, Taken}
 use Rattle.split.proofs.ListLoop.{store-next}
 
 -- one pension more
@@ -23,8 +23,8 @@ pensions-counted s (suc n) =
     omega (arith, pensions-counted s n, length-append (pensionsAt s n) (pensionAt s (caseLength n) ∷ []))
 
 -- a pension read and stored at its place
-pub pensions-stored : (d : List ℕ) (ps : List Pension) (k at : ℕ) (p : Pension) → k < 4 → at ≡ caseLength k
-    → FieldOf d ps (λ s. placesAt s k) → FieldOf d p (λ s. pensionAt s at) → FieldOf d (set ps k p) (λ s. placesAt s (k + 1))
-pensions-stored d ps k at p h start t e s digits =
-    rw (pensions-more, t s digits, e s digits, start)
+pub pensions-stored : (b : List ℕ) (ps : List Pension) (k at end : ℕ) (p : Pension) → k < 4 → at ≡ caseLength k
+    → FieldOf b at ps (λ s. placesAt s k) → Taken b at pensionAt pensionLength p end → FieldOf b end (set ps k p) (λ s. placesAt s (k + 1))
+pensions-stored b ps k at end p h start before read s bytes within =
+    rw (pensions-more, before s bytes (omega arith), read .value s bytes within, start)
     (store-next (pensionsAt s k) 4 k (pensionAt s (caseLength k)) noPension (pensions-counted s k) h)

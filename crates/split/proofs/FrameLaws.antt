@@ -48,12 +48,12 @@ pub read-all : {s : List ℕ} {at n value i : ℕ} → DigitsRead s at n value i
 read-all {n = n} {i = i} read h = let all : i ≡ n = omega arith in rw all at (read .number)
 
 -- a digit's value by arithmetic: antt computes it at each of the 256 characters
-pub digit-worth : (c : ℕ) → c < 256 → noDigit c ≡ false → c % 16 + 9 * (c / 64) ≡ hexValue c % 16
+pub digit-worth : (c : ℕ) → c < 256 → noDigit c ≡ false → (c % 16 + 9 * (c / 64)) % 16 ≡ hexValue c % 16
 unfolding hexValue noDigit
 digit-worth c h e =
     eqb-true _ _
     (rw e at
-    (below-at 256 (λ (k : ℕ). noDigit k || eqb (k % 16 + 9 * (k / 64)) (hexValue k % 16)) refl c h))
+    (below-at 256 (λ (k : ℕ). noDigit k || eqb ((k % 16 + 9 * (k / 64)) % 16) (hexValue k % 16)) refl c h))
 
 -- in a line of digits each character is one
 pub digit-known : (s : List ℕ) (at : ℕ) → badCharacter s ≡ false → at < length s → noDigit (getD s at 0) ≡ false

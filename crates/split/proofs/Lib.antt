@@ -5,9 +5,9 @@ pub mod Accepted
 pub mod ArraysLaws
 pub mod BenefitsLaws
 pub mod Best
+pub mod BytesLaws
 pub mod CaseLaws
 pub mod ConditionsLaws
-pub mod DigitsLaws
 pub mod Figures
 pub mod FrameLaws
 pub mod GrantLoop

@@ -1,29 +1,55 @@
 -- Laws of reading a case line: what the code makes of its characters, its length and its fields is the case of the line; a
 -- case that is not refused is that of a line of one to four pensions; and the refusal of any line is that of the line or of
 -- its case. Assumes nothing.
-use Prim.Native.Nat.{ℕ, _≤_}
-use mathlib.Core.Bool.{Bool, true, false, cond}
+use Prim.Native.Nat.{ℕ, _≤_, _<_}
+use mathlib.Core.Bool.{Bool, true, false, cond, not, _&&_, _||_, false≢true}
 use mathlib.Core.List.{List, [], _∷_}
-use mathlib.Core.Path.{_≡_, refl, _∙_}
-use lib.Dec.{eqb}
+use mathlib.Core.Path.{_≡_, refl, _∙_, ap}
+use native.Mathlib.Omega.{arith}
+use lib.Dec.{leb, ltb, eqb}
 use lib.ListN.{length, take}
 use lib.Seq.{take-at}
-use borrow.Author.Tests.{ne-eqb, not-false}
+use borrow.Author.Tests.{lt-leb, leb-false, le-ltb, ltb-false, ne-eqb, eqb-true, not-false}
 use Rattle.calendar.specs.Tests.{within, lowest}
-use Rattle.calendar.proofs.TestsLaws.{by-zero, and-left, within-bounds, lowest-none}
+use Rattle.calendar.proofs.TestsLaws.{by-zero, and-left, and-right, or-left, or-right, not-true-false, within-bounds, lowest-none}
 use Rattle.split.specs.declared.case.Head.{Head}
 use Rattle.split.specs.declared.case.Pension.{Pension}
 use Rattle.split.specs.declared.case.Case.{Case}
 use Rattle.split.specs.Frame.{badCharacter}
-use Rattle.split.specs.Case.{headOf, pensionsAt, placesAt, pensionsOf}
+use Rattle.split.specs.Case.{headOf, pensionsAt, placesAt, pensionsOf, caseLength, longestLine}
+use Rattle.split.specs.Bytes.{blockLength}
 use Rattle.split.specs.Refusal.{badLength, lineRefusal, conditions, refusalOf}
 use Rattle.split.specs.Reading.{wholeCase, refusedCase, caseOf}
 use Rattle.split.proofs.CaseLaws.{pensions-counted}
 
--- a right length is that of at most four pensions
-pub count-listed : (characters n : ℕ) → badLength characters n ≡ false → n ≤ 4
-unfolding badLength
-count-listed characters n e = within-bounds 1 4 n (and-left (within 1 4 n) _ (not-false _ e)) .1
+-- a right length is that of one to four pensions
+listed : (characters n : ℕ) → (within 1 4 n && eqb characters (caseLength n)) ≡ true
+    → (1 ≤ n) × (n ≤ 4) × (characters ≡ caseLength n)
+listed characters n t =
+    let count = within-bounds 1 4 n (and-left (within 1 4 n) _ t) in
+    (count .0, count .1, eqb-true characters _ (and-right (within 1 4 n) _ t))
+
+module _ (characters n : ℕ) (e : badLength characters n ≡ false) where
+  pub count-listed : n ≤ 4
+  unfolding badLength
+  count-listed = listed characters n (not-false _ e) .1
+
+  pub length-listed : characters ≡ caseLength n
+  unfolding badLength
+  length-listed = listed characters n (not-false _ e) .2
+
+-- so none is as short as a block, or longer than the longest
+module _ (characters : ℕ) where
+  pub length-unlisted : (leb characters blockLength || ltb longestLine characters) ≡ true → (n : ℕ) → badLength characters n ≡ true
+  unfolding badLength
+  length-unlisted far n = ap not (not-true-false _ (λ t.
+      let l = listed characters n t in
+      false≢true (simp (lt-leb characters blockLength (omega arith), le-ltb longestLine characters (omega arith)) at far)))
+
+  pub length-between : (leb characters blockLength || ltb longestLine characters) ≡ false
+      → (blockLength < characters) × (characters ≤ longestLine)
+  length-between near =
+      (leb-false _ _ (or-left (leb characters blockLength) _ near), ltb-false _ _ (or-right (leb characters blockLength) _ near))
 
 -- the refusal of a line is that of its characters or its length, and else that of its case
 line-then-case : (s : List ℕ)

@@ -1,8 +1,8 @@
 pub mod Arrays
 pub mod Benefits
+pub mod Bytes
 pub mod Case
 pub mod Conditions
-pub mod Digits
 pub mod Figures
 pub mod Frame
 pub mod Grant

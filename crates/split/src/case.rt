@@ -1,14 +1,18 @@
 // A case as its line has it: the head, and the pensions in an array of four places, read by one cursor.
 use crate::frame;
 use crate::frame::Cursor;
+use crate::frame::LONGEST;
 use crate::refusal;
 use calendar::Date;
 use factors::effective::FactorTerms;
 use factors::money::YearlyPence;
 ghost use mathlib.Core.Path.{_≡_};
-ghost use Prim.Native.Nat.{_+_, _≤_};
+ghost use mathlib.Core.Bool.{true};
+ghost use Prim.Native.Nat.{ℕ, _+_, _≤_};
+ghost use lib.ListN.{length};
 ghost use Rattle.split.specs.Case.{headAt, serviceAt, termsAt, pensionAt, placesAt, noPension, headLength, pensionLength, caseLength, longestLine};
-ghost use Rattle.split.specs.Digits.{Values, FieldOf, Taken};
+ghost use Rattle.split.specs.Refusal.{badLength};
+ghost use Rattle.split.specs.Bytes.{FieldOf, Taken};
 ghost use Rattle.split.specs.Reading.{refusedCase, caseOf};
 
 pub struct Head {
@@ -63,14 +67,14 @@ struct PensionsField {
     pub next: Cursor,
 }
 
-fn read_head(digits: &[u8], at: Cursor) -> HeadField
-    requires { ⌜ (at .at + headLength ≤ longestLine) × Values (now digits) ⌝ }
-    ensures { λ r. ⌜ Taken (now (digits .entry)) (at .at) headAt headLength (r .value) (r .next .at) ⌝ }
+fn read_head(bytes: &[u8; LONGEST], at: Cursor) -> HeadField
+    requires { ⌜ at .at + headLength ≤ longestLine ⌝ }
+    ensures { λ r. ⌜ Taken (now (bytes .entry)) (at .at) headAt headLength (r .value) (r .next .at) ⌝ }
 {
-    let member = at.number(digits);
-    let birth = member.next.date(digits);
-    let commencement = birth.next.date(digits);
-    let count = commencement.next.byte(digits);
+    let member = at.number(bytes);
+    let birth = member.next.date(bytes);
+    let commencement = birth.next.date(bytes);
+    let count = commencement.next.byte(bytes);
     let next = count.next;
     let born = birth.value;
     let commences = commencement.value;
@@ -85,12 +89,12 @@ fn read_head(digits: &[u8], at: Cursor) -> HeadField
     }
 }
 
-fn read_service(digits: &[u8], at: Cursor) -> ServiceField
-    requires { ⌜ (at .at + 16 ≤ longestLine) × Values (now digits) ⌝ }
-    ensures { λ r. ⌜ Taken (now (digits .entry)) (at .at) serviceAt 16 (r .value) (r .next .at) ⌝ }
+fn read_service(bytes: &[u8; LONGEST], at: Cursor) -> ServiceField
+    requires { ⌜ at .at + 16 ≤ longestLine ⌝ }
+    ensures { λ r. ⌜ Taken (now (bytes .entry)) (at .at) serviceAt 16 (r .value) (r .next .at) ⌝ }
 {
-    let start = at.date(digits);
-    let end = start.next.date(digits);
+    let start = at.date(bytes);
+    let end = start.next.date(bytes);
     let next = end.next;
     let first = start.value;
     let last = end.value;
@@ -103,14 +107,14 @@ fn read_service(digits: &[u8], at: Cursor) -> ServiceField
     }
 }
 
-fn read_terms(digits: &[u8], at: Cursor) -> TermsField
-    requires { ⌜ (at .at + 16 ≤ longestLine) × Values (now digits) ⌝ }
-    ensures { λ r. ⌜ Taken (now (digits .entry)) (at .at) termsAt 16 (r .value) (r .next .at) ⌝ }
+fn read_terms(bytes: &[u8; LONGEST], at: Cursor) -> TermsField
+    requires { ⌜ at .at + 16 ≤ longestLine ⌝ }
+    ensures { λ r. ⌜ Taken (now (bytes .entry)) (at .at) termsAt 16 (r .value) (r .next .at) ⌝ }
 {
-    let f1 = at.short(digits);
-    let f2 = f1.next.short(digits);
-    let f3 = f2.next.short(digits);
-    let increase = f3.next.short(digits);
+    let f1 = at.short(bytes);
+    let f2 = f1.next.short(bytes);
+    let f3 = f2.next.short(bytes);
+    let increase = f3.next.short(bytes);
     let next = increase.next;
     TermsField {
         value: FactorTerms {
@@ -123,15 +127,15 @@ fn read_terms(digits: &[u8], at: Cursor) -> TermsField
     }
 }
 
-fn read_pension(digits: &[u8], at: Cursor) -> PensionField
-    requires { ⌜ (at .at + pensionLength ≤ longestLine) × Values (now digits) ⌝ }
-    ensures { λ r. ⌜ Taken (now (digits .entry)) (at .at) pensionAt pensionLength (r .value) (r .next .at) ⌝ }
+fn read_pension(bytes: &[u8; LONGEST], at: Cursor) -> PensionField
+    requires { ⌜ at .at + pensionLength ≤ longestLine ⌝ }
+    ensures { λ r. ⌜ Taken (now (bytes .entry)) (at .at) pensionAt pensionLength (r .value) (r .next .at) ⌝ }
 {
-    let kind = at.byte(digits);
-    let stated = kind.next.number(digits);
-    let service = read_service(digits, stated.next);
-    let lift = service.next.byte(digits);
-    let terms = read_terms(digits, lift.next);
+    let kind = at.byte(bytes);
+    let stated = kind.next.number(bytes);
+    let service = read_service(bytes, stated.next);
+    let lift = service.next.byte(bytes);
+    let terms = read_terms(bytes, lift.next);
     let next = terms.next;
     let served = service.value;
     let given = terms.value;
@@ -173,15 +177,15 @@ fn no_pension() -> Pension
 }
 
 // The n pensions of a line, from the end of its head on, in the first places of the array.
-fn read_pensions(digits: &[u8], at: Cursor, n: usize) -> PensionsField
-    requires { ⌜ (at .at ≡ headLength) × (n ≤ 4) × Values (now digits) ⌝ }
-    ensures { λ r. ⌜ FieldOf (now (digits .entry)) (r .value) (λ s. placesAt s n) × (r .next .at ≡ caseLength n) ⌝ }
+fn read_pensions(bytes: &[u8; LONGEST], at: Cursor, n: usize) -> PensionsField
+    requires { ⌜ (at .at ≡ headLength) × (n ≤ 4) ⌝ }
+    ensures { λ r. ⌜ FieldOf (now (bytes .entry)) (r .next .at) (r .value) (λ s. placesAt s n) × (r .next .at ≡ caseLength n) ⌝ }
 {
     let mut pensions = [no_pension(); 4];
     let mut next = at;
     let mut i = 0;
     while i < n {
-        let read = read_pension(digits, next);
+        let read = read_pension(bytes, next);
         let pension = read.value;
         pensions[i] = pension;
         next = read.next;
@@ -213,20 +217,34 @@ fn refused_case(refusal: u8) -> Case
     }
 }
 
-// The case of a line, whatever its bytes, or refusal 1 or 2. One cursor goes through the whole line.
-pub fn read_case(line: &[u8]) -> Case
+// The refusal of a line of a length that no case has.
+fn unread_case(line: &[u8]) -> Case
+    requires { ⌜ ((n : ℕ) → badLength (length (now line)) n ≡ true) ⌝ }
     ensures { λ r. ⌜ r ≡ caseOf (now (line .entry)) ⌝ }
 {
     if frame::has_bad_character(line) {
         return refused_case(1);
     }
-    let digits = frame::decode(line);
-    let read = read_head(&digits, Cursor { at: 0 });
+    refused_case(2)
+}
+
+// The case of a line, whatever its bytes, or refusal 1 or 2. One cursor goes through the whole line.
+pub fn read_case(line: &[u8]) -> Case
+    ensures { λ r. ⌜ r ≡ caseOf (now (line .entry)) ⌝ }
+{
+    if (line.len() <= frame::BLOCK) | (LONGEST < line.len()) {
+        return unread_case(line);
+    }
+    let mut bytes = [0u8; LONGEST];
+    if frame::decode(line, &mut bytes) {
+        return refused_case(1);
+    }
+    let read = read_head(&bytes, Cursor { at: 0 });
     let head = read.value;
     if refusal::has_bad_length(line.len(), head.count) {
         return refused_case(2);
     }
-    let taken = read_pensions(&digits, read.next, head.count as usize);
+    let taken = read_pensions(&bytes, read.next, head.count as usize);
     let pensions = taken.value;
     Case {
         refusal: 0,

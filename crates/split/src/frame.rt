@@ -1,12 +1,13 @@
-// The frame reader: fields of uppercase hexadecimal digits, highest first, taken one after the other.
+// The frame reader: a line of uppercase hexadecimal digits becomes bytes, and fields, highest byte first, are taken from
+// them one after the other.
 use calendar::Date;
 ghost use mathlib.Core.Path.{_≡_};
 ghost use mathlib.Core.Bool.{false};
-ghost use Prim.Native.Nat.{_+_, _*_, _%_, _^_, _≤_, _<_};
-ghost use lib.ListN.{getD};
+ghost use Prim.Native.Nat.{_+_, _%_, _^_, _≤_, _<_};
+ghost use lib.ListN.{length};
 ghost use Rattle.split.specs.Frame.{hexValue, noDigit, digitAt, numberAt, dateAt, badCharacter};
 ghost use Rattle.split.specs.Case.{longestLine};
-ghost use Rattle.split.specs.Digits.{Values, Digits, Taken, numberOf};
+ghost use Rattle.split.specs.Bytes.{blockLength, Decoded, Bytes, Taken, numberOf};
 
 // The characters of a head, of a pension, and of the longest case line.
 pub const HEAD_LENGTH: usize = 26;
@@ -14,6 +15,9 @@ pub const HEAD_LENGTH: usize = 26;
 pub const PENSION_LENGTH: usize = 44;
 
 pub const LONGEST: usize = HEAD_LENGTH + 4 * PENSION_LENGTH;
+
+// How many characters are decoded together.
+pub const BLOCK: usize = 32;
 
 // The value of a character: 0-9 and A-F, and 16 for any other.
 pub fn hex_value(character: u8) -> u8
@@ -41,38 +45,47 @@ pub fn has_bad_character(line: &[u8]) -> bool
     bad
 }
 
-// The value of a character that is known to be a digit.
+// The value of a character that is a digit, with no branch; of any other, some number below 16.
 fn digit_value(character: u8) -> u8
-    requires { ⌜ noDigit character ≡ false ⌝ }
-    ensures { λ r. ⌜ r ≡ hexValue character % 16 ⌝ }
+    ensures { λ r. ⌜ (r < 16) × (noDigit character ≡ false → r ≡ hexValue character % 16) ⌝ }
 {
-    character % 16 + 9 * (character / 64)
+    (character % 16 + 9 * (character / 64)) % 16
 }
 
-// The digits of a line, as far as the longest case line goes; zeros behind its end.
-pub fn decode(line: &[u8]) -> [u8; LONGEST]
-    requires { ⌜ badCharacter (now line) ≡ false ⌝ }
-    ensures { λ r. ⌜ Digits (now (line .entry)) r ⌝ }
+// Decodes a block of a line from a place on, each character with the one after it into a byte. Told whether a character
+// before the block is no digit, it says whether one before the block's end is. The loop's length is fixed and it has no
+// branch, so that the compiler takes many characters at once.
+fn decode_block(line: &[u8], bytes: &mut [u8; LONGEST], at: usize, found: bool) -> bool
+    requires { ⌜ (at + blockLength < length (now line)) × (length (now line) ≤ longestLine) × Decoded (now line) (now bytes) found at ⌝ }
+    ensures { λ r. ⌜ Decoded (now (line .entry)) (now (bytes .exit)) r (at + blockLength) ⌝ }
 {
-    let mut digits = [0u8; LONGEST];
-    let mut end = line.len();
-    if LONGEST < end {
-        end = LONGEST;
-    }
+    let mut bad = found;
     let mut i = 0;
-    while i < end {
-        digits[i] = digit_value(line[i]);
+    while i < BLOCK {
+        let place = at + i;
+        let character = line[place];
+        bad = bad | (hex_value(character) == 16);
+        bytes[place] = digit_value(character) * 16 + digit_value(line[place + 1]);
         i += 1;
     }
-    digits
+    bad
 }
 
-// The byte that two digits make.
-fn pair(digits: &[u8], at: usize) -> u8
-    requires { ⌜ (at + 2 ≤ longestLine) × Values (now digits) ⌝ }
-    ensures { λ r. ⌜ r ≡ getD (now (digits .entry)) at 0 * 16 + getD (now (digits .entry)) (at + 1) 0 ⌝ }
+// Decodes a line that is longer than a block, and says whether some character is no digit. The last block ends before the
+// last character, wherever it begins: it may overlap the block before it.
+pub fn decode(line: &[u8], bytes: &mut [u8; LONGEST]) -> bool
+    requires { ⌜ (blockLength < length (now line)) × (length (now line) ≤ longestLine) × (length (now bytes) ≡ longestLine) ⌝ }
+    ensures { λ r. ⌜ (r ≡ badCharacter (now (line .entry))) × (r ≡ false → Bytes (now (line .entry)) (now (bytes .exit))) ⌝ }
 {
-    digits[at] * 16 + digits[at + 1]
+    let last = line.len() - BLOCK - 1;
+    let mut bad = false;
+    let mut at = 0;
+    while at < last {
+        bad = decode_block(line, bytes, at, bad);
+        at += BLOCK;
+    }
+    bad = decode_block(line, bytes, last, bad);
+    bad | (hex_value(line[last + BLOCK]) == 16)
 }
 
 // The digit at a place of any bytes; 0 past the end and where the character is no digit.
@@ -99,7 +112,7 @@ fn digits_at(line: &[u8], at: usize, count: usize) -> u32
     value
 }
 
-// A place among a line's digits. Each method takes the next field and hands the cursor back moved on.
+// A place in a line. Each method takes the next field and hands the cursor back moved on.
 pub struct Cursor {
     pub at: usize,
 }
@@ -126,38 +139,38 @@ pub struct DateField {
 
 impl Cursor {
     // A number of one byte.
-    pub fn byte(self, digits: &[u8]) -> ByteField
-        requires { ⌜ (self .at + 2 ≤ longestLine) × Values (now digits) ⌝ }
-        ensures { λ r. ⌜ Taken (now (digits .entry)) (self .at) (numberOf 2) 2 (r .value) (r .next .at) ⌝ }
+    pub fn byte(self, bytes: &[u8; LONGEST]) -> ByteField
+        requires { ⌜ self .at + 2 ≤ longestLine ⌝ }
+        ensures { λ r. ⌜ Taken (now (bytes .entry)) (self .at) (numberOf 2) 2 (r .value) (r .next .at) ⌝ }
     {
         let at = self.at;
         ByteField {
-            value: pair(digits, at),
+            value: bytes[at],
             next: Cursor { at: at + 2 },
         }
     }
 
     // A number of two bytes.
-    pub fn short(self, digits: &[u8]) -> ShortField
-        requires { ⌜ (self .at + 4 ≤ longestLine) × Values (now digits) ⌝ }
-        ensures { λ r. ⌜ Taken (now (digits .entry)) (self .at) (numberOf 4) 4 (r .value) (r .next .at) ⌝ }
+    pub fn short(self, bytes: &[u8; LONGEST]) -> ShortField
+        requires { ⌜ self .at + 4 ≤ longestLine ⌝ }
+        ensures { λ r. ⌜ Taken (now (bytes .entry)) (self .at) (numberOf 4) 4 (r .value) (r .next .at) ⌝ }
     {
-        let at = self.at;
-        let high = pair(digits, at) as u16;
-        let low = pair(digits, at + 2) as u16;
+        let high = self.byte(bytes);
+        let low = high.next.byte(bytes);
+        let next = low.next;
         ShortField {
-            value: high * 256 + low,
-            next: Cursor { at: at + 4 },
+            value: high.value as u16 * 256 + low.value as u16,
+            next,
         }
     }
 
     // A number of four bytes.
-    pub fn number(self, digits: &[u8]) -> NumberField
-        requires { ⌜ (self .at + 8 ≤ longestLine) × Values (now digits) ⌝ }
-        ensures { λ r. ⌜ Taken (now (digits .entry)) (self .at) (numberOf 8) 8 (r .value) (r .next .at) ⌝ }
+    pub fn number(self, bytes: &[u8; LONGEST]) -> NumberField
+        requires { ⌜ self .at + 8 ≤ longestLine ⌝ }
+        ensures { λ r. ⌜ Taken (now (bytes .entry)) (self .at) (numberOf 8) 8 (r .value) (r .next .at) ⌝ }
     {
-        let high = self.short(digits);
-        let low = high.next.short(digits);
+        let high = self.short(bytes);
+        let low = high.next.short(bytes);
         let next = low.next;
         NumberField {
             value: high.value as u32 * 65536 + low.value as u32,
@@ -166,13 +179,13 @@ impl Cursor {
     }
 
     // A date: two bytes of year, one of month, one of day.
-    pub fn date(self, digits: &[u8]) -> DateField
-        requires { ⌜ (self .at + 8 ≤ longestLine) × Values (now digits) ⌝ }
-        ensures { λ r. ⌜ Taken (now (digits .entry)) (self .at) dateAt 8 (r .value) (r .next .at) ⌝ }
+    pub fn date(self, bytes: &[u8; LONGEST]) -> DateField
+        requires { ⌜ self .at + 8 ≤ longestLine ⌝ }
+        ensures { λ r. ⌜ Taken (now (bytes .entry)) (self .at) dateAt 8 (r .value) (r .next .at) ⌝ }
     {
-        let year = self.short(digits);
-        let month = year.next.byte(digits);
-        let day = month.next.byte(digits);
+        let year = self.short(bytes);
+        let month = year.next.byte(bytes);
+        let day = month.next.byte(bytes);
         let next = day.next;
         DateField {
             value: Date {

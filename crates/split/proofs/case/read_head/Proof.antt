@@ -1,7 +1,7 @@
 -- `read_head` is the definition `headAt`, field by field.
 use borrow.Author.Needs.{needs}
 use Rattle.split.specs.Case.{headAt}
-use Rattle.split.proofs.DigitsLaws.{made-of, _then_}
+use Rattle.split.proofs.BytesLaws.{made-of, _then_}
 use Rattle.split.proofs.case.read_head.Statement.{statement}
 use Rattle.split.proofs.case.read_head.Tie as tie
 

@@ -1,7 +1,7 @@
 -- `read_pension` is the definition `pensionAt`, field by field.
 use borrow.Author.Needs.{needs}
 use Rattle.split.specs.Case.{pensionAt}
-use Rattle.split.proofs.DigitsLaws.{made-of, _then_}
+use Rattle.split.proofs.BytesLaws.{made-of, _then_}
 use Rattle.split.proofs.case.read_pension.Statement.{statement}
 use Rattle.split.proofs.case.read_pension.Tie as tie
 

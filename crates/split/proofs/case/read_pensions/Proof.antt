@@ -5,26 +5,25 @@ use mathlib.Core.Path.{_≡_, ap}
 use native.Mathlib.Numerals.{add-one-le}
 use native.Mathlib.Omega.{arith}
 use lib.ListN.{replicate}
-use borrow.Author.Needs.{needs}
 use Rattle.split.specs.declared.case.Pension.{Pension}
 use Rattle.split.specs.Case.{pensionsAt, placesAt, caseLength}
-use Rattle.split.specs.Digits.{FieldOf}
+use Rattle.split.specs.Bytes.{FieldOf}
 use Rattle.split.proofs.ListLoop.{at-end}
 use Rattle.split.proofs.CaseLaws.{pensions-stored}
 use Rattle.split.proofs.case.read_pensions.Statement.{statement}
 use Rattle.split.proofs.case.read_pensions.Tie as tie
 
 abbrev Inv-loop : tie.InvT-loop
-Inv-loop digits n pensions₀ next₀ i₀ pensions next i =
-    (i ≤ n) × (next .at ≡ caseLength i) × FieldOf digits pensions (λ s. placesAt s i)
+Inv-loop bytes n pensions₀ next₀ i₀ pensions next i =
+    (i ≤ n) × (next .at ≡ caseLength i) × FieldOf bytes (next .at) pensions (λ s. placesAt s i)
 
 abbrev μ-loop : tie.MeasureT-loop
-μ-loop digits n pensions₀ next₀ i₀ pensions next i = n - i
+μ-loop bytes n pensions₀ next₀ i₀ pensions next i = n - i
 
 loop-holds : tie.Need-loop-holds Inv-loop μ-loop
 unfolding pensionsAt
 loop-holds c =
-    (zero-le, c .before .before .pre .0, λ s digits. ap (λ (p : Pension). replicate 4 p) (c .no-pension .ensures))
+    (zero-le, c .before .pre .0, λ s bytes within. ap (λ (p : Pension). replicate 4 p) (c .no-pension .ensures))
 
 loop-again : tie.Need-loop-again Inv-loop μ-loop
 loop-again c =
@@ -34,21 +33,22 @@ loop-again c =
     let place : l .i < 4 = omega arith in (
       add-one-le (test .loop-test .taken),
       omega arith,
-      pensions-stored _ (l .pensions) (l .i) (l .next .at) (read .read-pension .result .value) place (l .inv .1) (l .inv .2)
-          (read .read-pension .ensures .value),
+      pensions-stored _ (l .pensions) (l .i) (l .next .at) _ (read .read-pension .result .value) place (l .inv .1) (l .inv .2)
+          (read .read-pension .ensures),
     )
 
 returns : tie.Need-returns Inv-loop μ-loop
 returns c =
     let l = c .before .loop in
-    let n = c .before .before .before .before .args .n in (
-      λ s digits.
-          at-end (λ (k : ℕ). l .pensions) (λ (k : ℕ). placesAt s k) (l .i) n (l .inv .0) (c .loop-test .left) (l .inv .2 s digits),
+    let n = c .before .before .before .args .n in (
+      λ s bytes within.
+          at-end (λ (k : ℕ). l .pensions) (λ (k : ℕ). placesAt s k) (l .i) n (l .inv .0) (c .loop-test .left)
+          (l .inv .2 s bytes within),
       at-end (λ (k : ℕ). l .next .at) caseLength (l .i) n (l .inv .0) (c .loop-test .left) (l .inv .1),
     )
 
 pub read-pensions-spec : {M : Type 1} → statement M
 read-pensions-spec =
     tie.close
-    (tie.spec Inv-loop μ-loop (search needs) loop-holds (λ c κs. search needs) (search needs) (search needs) (search needs)
-    (search needs) loop-again returns)
+    (tie.spec Inv-loop μ-loop (λ c. omega arith) loop-holds (λ c κs. omega arith) (λ c. omega arith) (λ c. omega arith)
+    (λ c. omega arith) (λ c. omega arith) loop-again returns)

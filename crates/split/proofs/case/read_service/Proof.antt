@@ -1,7 +1,7 @@
 -- `read_service` is the definition `serviceAt`, date by date.
 use borrow.Author.Needs.{needs}
 use Rattle.split.specs.Case.{serviceAt}
-use Rattle.split.proofs.DigitsLaws.{made-of, _then_}
+use Rattle.split.proofs.BytesLaws.{made-of, _then_}
 use Rattle.split.proofs.case.read_service.Statement.{statement}
 use Rattle.split.proofs.case.read_service.Tie as tie
 

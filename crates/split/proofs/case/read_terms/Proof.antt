@@ -1,7 +1,7 @@
 -- `read_terms` is the definition `termsAt`, field by field.
 use borrow.Author.Needs.{needs}
 use Rattle.split.specs.Case.{termsAt}
-use Rattle.split.proofs.DigitsLaws.{made-of, _then_}
+use Rattle.split.proofs.BytesLaws.{made-of, _then_}
 use Rattle.split.proofs.case.read_terms.Statement.{statement}
 use Rattle.split.proofs.case.read_terms.Tie as tie
 

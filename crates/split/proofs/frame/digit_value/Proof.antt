@@ -6,7 +6,7 @@ use Rattle.split.proofs.frame.digit_value.Statement.{statement}
 use Rattle.split.proofs.frame.digit_value.Tie as tie
 
 returns : tie.Need-returns
-returns c = digit-worth (c .args .character) (omega arith) (c .pre)
+returns c = (omega arith, λ good. digit-worth (c .args .character) (omega arith) good)
 
 pub digit-value-spec : {M : Type 1} → statement M
 digit-value-spec = tie.close (tie.spec (search needs) (search needs) returns)

@@ -2,7 +2,7 @@
 use borrow.Author.Needs.{needs}
 use Rattle.calendar.specs.Calendar.{date}
 use Rattle.split.specs.Frame.{dateAt}
-use Rattle.split.proofs.DigitsLaws.{made-of, _then_}
+use Rattle.split.proofs.BytesLaws.{made-of, _then_}
 use Rattle.split.proofs.frame.Cursor.date.Statement.{statement}
 use Rattle.split.proofs.frame.Cursor.date.Tie as tie
 

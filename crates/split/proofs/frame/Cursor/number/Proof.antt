@@ -1,6 +1,6 @@
 -- `number` is a number of 8 digits: two of 4, joined.
 use borrow.Author.Needs.{needs}
-use Rattle.split.proofs.DigitsLaws.{number-joined}
+use Rattle.split.proofs.BytesLaws.{number-joined}
 use Rattle.split.proofs.frame.Cursor.number.Statement.{statement}
 use Rattle.split.proofs.frame.Cursor.number.Tie as tie
 
