@@ -4,43 +4,48 @@ use std::time::Duration;
 
 use crate::work::Timed;
 
-/// One job: its name, and how long both took.
-pub struct Row {
-    job: String,
-    engine: String,
-    reference: String,
-    ratio: f64,
+/// Which time is divided by the other.
+pub enum Quotient {
+    LeftByRight,
+    RightByLeft,
 }
 
-impl Row {
-    /// A job of many lines, in nanoseconds a line.
-    pub fn per_line(job: &str, timed: Timed, lines: usize) -> Row {
+/// A table of both sides' times and their quotient, a row for each job.
+pub struct Table {
+    pub left: &'static str,
+    pub right: &'static str,
+    pub quotient: Quotient,
+}
+
+impl Table {
+    pub fn print_heading(&self) {
+        let Table { left, right, quotient } = self;
+        let (above, below) = match quotient {
+            Quotient::LeftByRight => (left, right),
+            Quotient::RightByLeft => (right, left),
+        };
+        println!("| job | {left} | {right} | {above} / {below} |");
+        println!("|---|---|---|---|");
+    }
+
+    /// Prints a job of many lines, in nanoseconds a line.
+    pub fn print_per_line(&self, job: &str, timed: &Timed, lines: usize) {
         let show =
             |time: Duration| format!("{:.0} ns a line", time.as_nanos() as f64 / lines as f64);
-        Row::of(job, &timed, show)
+        self.print(job, timed, show);
     }
 
-    /// A job as a whole, in milliseconds.
-    pub fn whole(job: &str, timed: Timed) -> Row {
-        Row::of(job, &timed, |time| format!("{:.1} ms", time.as_secs_f64() * 1e3))
+    /// Prints a job as a whole, in milliseconds.
+    pub fn print_whole(&self, job: &str, timed: &Timed) {
+        self.print(job, timed, |time| format!("{:.1} ms", time.as_secs_f64() * 1e3));
     }
 
-    fn of(job: &str, timed: &Timed, show: impl Fn(Duration) -> String) -> Row {
-        Row {
-            job: job.to_string(),
-            engine: show(timed.engine),
-            reference: show(timed.reference),
-            ratio: timed.engine.as_secs_f64() / timed.reference.as_secs_f64(),
-        }
+    fn print(&self, job: &str, timed: &Timed, show: impl Fn(Duration) -> String) {
+        let left_by_right = timed.left.as_secs_f64() / timed.right.as_secs_f64();
+        let quotient = match self.quotient {
+            Quotient::LeftByRight => left_by_right,
+            Quotient::RightByLeft => left_by_right.recip(),
+        };
+        println!("| {job} | {} | {} | {quotient:.2} |", show(timed.left), show(timed.right));
     }
-
-    pub fn print(&self) {
-        let Row { job, engine, reference, ratio } = self;
-        println!("| {job} | {engine} | {reference} | {ratio:.2} |");
-    }
-}
-
-pub fn print_heading() {
-    println!("| job | engine | reference | engine / reference |");
-    println!("|---|---|---|---|");
 }

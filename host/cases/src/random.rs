@@ -1,5 +1,7 @@
 //! Random good cases, with a liking for the ends of every range.
 
+use std::ops::RangeInclusive;
+
 use reference::calendar::{days_in_month, Date};
 
 use crate::fields::{dates_after, day_after, CaseFields, PensionFields};
@@ -24,10 +26,15 @@ pub fn kind_lists() -> Vec<Vec<u8>> {
 
 /// A good case of random kinds.
 pub fn any_case(random: &mut Generator) -> CaseFields {
+    let kinds = any_kinds(random);
+    good_case(random, &kinds)
+}
+
+/// 1 to 4 kinds that a case may have.
+pub(crate) fn any_kinds(random: &mut Generator) -> Vec<u8> {
     let count = 1 + random.below(4);
     let kinds_at_age = [1, random.pick(&[2, 3])];
-    let kinds: Vec<u8> = (0..count).map(|_| random.pick(&kinds_at_age)).collect();
-    good_case(random, &kinds)
+    (0..count).map(|_| random.pick(&kinds_at_age)).collect()
 }
 
 /// A good case of the given kinds.
@@ -41,12 +48,22 @@ pub fn good_case(random: &mut Generator, kinds: &[u8]) -> CaseFields {
         let (start, end) = service(random, birth, commencement, age);
         pensions.push(good_pension(random, kind, look_up, start, end));
     }
+    with_amounts(random, birth, commencement, pensions)
+}
+
+/// The case of some pensions, with random amounts and a random member.
+pub(crate) fn with_amounts(
+    random: &mut Generator,
+    birth: Date,
+    commencement: Date,
+    mut pensions: Vec<PensionFields>,
+) -> CaseFields {
     state_amounts(random, &mut pensions);
     CaseFields {
         member: random.next() as u32,
         birth,
         commencement,
-        count: kinds.len() as u8,
+        count: pensions.len() as u8,
         pensions,
         bad_character: false,
     }
@@ -69,6 +86,13 @@ pub fn mixed_text(random: &mut Generator, lines: usize) -> Vec<u8> {
 }
 
 fn age_for(random: &mut Generator, kinds: &[u8], look_up: bool) -> u32 {
+    let ages = ages_for(random, kinds, look_up);
+    let any = random.within(ages.clone());
+    random.pick(&[any, any, any, *ages.start(), *ages.end()])
+}
+
+/// The ages in months, of those that the kinds allow, to draw one from.
+pub(crate) fn ages_for(random: &mut Generator, kinds: &[u8], look_up: bool) -> RangeInclusive<u32> {
     let (mut youngest, mut oldest) = if look_up { (636, 875) } else { (216, 1199) };
     if kinds.contains(&2) {
         oldest = 659;
@@ -78,8 +102,7 @@ fn age_for(random: &mut Generator, kinds: &[u8], look_up: bool) -> u32 {
         // Mostly the ages of early payment.
         oldest = if random.once_in(4) { oldest } else { 721 };
     }
-    let any = random.within(youngest..=oldest);
-    random.pick(&[any, any, any, youngest, oldest])
+    youngest..=oldest
 }
 
 fn birth_for(random: &mut Generator, age: u32) -> Date {
@@ -108,7 +131,7 @@ fn service(random: &mut Generator, birth: Date, commencement: Date, age: u32) ->
     (start, random.pick(&ends))
 }
 
-fn good_pension(
+pub(crate) fn good_pension(
     random: &mut Generator,
     kind: u8,
     look_up: bool,

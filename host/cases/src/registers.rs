@@ -32,6 +32,24 @@ pub fn sound_register(random: &mut Generator, lines: usize, first: u32) -> Vec<u
 
 /// Writes a quote number into a line of a register.
 pub fn set_number(register: &mut [u8], line: usize, number: u32) {
-    let field = &mut register[line * LINE..][..NUMBER_DIGITS];
-    field.copy_from_slice(format!("{number:08X}").as_bytes());
+    set_field(&mut register[line * LINE..], number);
+}
+
+/// Gives every line of a register a member of its own.
+pub fn set_own_members(register: &mut [u8]) {
+    for (line, bytes) in register.chunks_exact_mut(LINE).enumerate() {
+        set_field(&mut bytes[NUMBER_DIGITS..], own_member(line));
+    }
+}
+
+/// The own member of a line, counted from 0. Multiples of an odd number differ,
+/// and those of a large one already in their first digits.
+pub fn own_member(line: usize) -> u32 {
+    let place = u32::try_from(line + 1).expect("a short register");
+    place.wrapping_mul(0x9E37_79B1)
+}
+
+/// Writes a number over the first digits of some bytes.
+fn set_field(bytes: &mut [u8], number: u32) {
+    bytes[..NUMBER_DIGITS].copy_from_slice(format!("{number:08X}").as_bytes());
 }

@@ -4,6 +4,8 @@
 mod common;
 
 use cases::fields::{at_every_place, dates_after, plain_case, CaseFields};
+use cases::generator::Generator;
+use cases::month_ends::month_end_case;
 use common::compare::{assert_quote, assert_refusal};
 use reference::calendar::Date;
 
@@ -128,6 +130,16 @@ fn calendar_ends_in_every_date() {
                 assert_eq!(quote.refusal == 3, !in_calendar, "{case:?}");
             }
         }
+    }
+}
+
+/// Cases in which every date is the last day of its month, many of them on 29
+/// February.
+#[test]
+fn month_ends_in_every_date() {
+    let mut random = Generator::for_test("month_ends_in_every_date");
+    for _ in 0..200_000 {
+        assert_refusal(&month_end_case(&mut random), 0);
     }
 }
 

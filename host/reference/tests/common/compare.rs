@@ -1,15 +1,13 @@
 //! Calls the engine with guarded buffers and asserts that it gives what the
 //! reference gives.
 
-use std::ops::Range;
 use std::thread;
 
+use cases::answers;
+use cases::fields::CaseFields;
 use engine::{Checked, Filed, Found, Quote};
-use reference::money::{LumpPence, YearlyPence};
-use reference::{register as book, Refusal};
 
 use super::guarded::{lend, lend_mut};
-use cases::fields::CaseFields;
 
 /// The input of a call. It prints itself if the test fails while it lives.
 struct Input<'a> {
@@ -37,7 +35,7 @@ fn beginning(bytes: &[u8]) -> String {
 pub fn assert_quote(line: &[u8]) -> Quote {
     let _input = Input { register: &[], used: 0, text: line };
     let quoted = lend(line, engine::quote);
-    assert_eq!(quoted, expected_quote(line));
+    assert_eq!(quoted, answers::quote(line));
     quoted
 }
 
@@ -52,11 +50,7 @@ pub fn assert_refusal(case: &CaseFields, refusal: u32) {
 pub fn assert_check(register: &[u8], used: usize) -> Checked {
     let _input = Input { register, used, text: &[] };
     let checked = lend(register, |register| engine::check(register, used));
-    let expected = match book::check(register, used) {
-        Ok(_) => Checked::default(),
-        Err(bad) => Checked { refusal: u32::from(Refusal::Register.number()), offset: bad.0 },
-    };
-    assert_eq!(checked, expected);
+    assert_eq!(checked, answers::check(register, used));
     checked
 }
 
@@ -64,8 +58,7 @@ pub fn assert_check(register: &[u8], used: usize) -> Checked {
 pub fn assert_find_number(register: &[u8], used: usize, number: u32) -> Found {
     let _input = Input { register, used, text: &[] };
     let found = lend(register, |register| engine::find_number(register, used, number));
-    let expected = expected_found(book::find_number(register, used, number));
-    assert_eq!(found, expected, "number {number:08X}");
+    assert_eq!(found, answers::find_number(register, used, number), "number {number:08X}");
     found
 }
 
@@ -73,8 +66,7 @@ pub fn assert_find_number(register: &[u8], used: usize, number: u32) -> Found {
 pub fn assert_find_member(register: &[u8], used: usize, member: u32) -> Found {
     let _input = Input { register, used, text: &[] };
     let found = lend(register, |register| engine::find_member(register, used, member));
-    let expected = expected_found(book::find_member(register, used, member));
-    assert_eq!(found, expected, "member {member:08X}");
+    assert_eq!(found, answers::find_member(register, used, member), "member {member:08X}");
     found
 }
 
@@ -86,11 +78,7 @@ pub fn assert_file(register: &[u8], used: usize, line: &[u8]) -> (Filed, Vec<u8>
     let (filed, after) =
         lend_mut(register, |register| lend(line, |line| engine::file(register, used, line)));
     let mut expected_after = register.to_vec();
-    let expected = match book::file(&mut expected_after, used, line) {
-        Ok(used) => Filed { refusal: 0, used },
-        Err(refusal) => Filed { refusal: u32::from(refusal.number()), used: 0 },
-    };
-    assert_eq!(filed, expected);
+    assert_eq!(filed, answers::file(&mut expected_after, used, line));
     assert!(after == expected_after, "bytes differ: {}", after.escape_ascii());
     let written = if filed.refusal == 0 { used..filed.used } else { 0..0 };
     assert!(after[..written.start] == register[..written.start], "a byte before was written");
@@ -154,7 +142,7 @@ fn lines_of(text: &[u8]) -> Vec<&[u8]> {
 fn file_one_by_one(register: &[u8], used: usize, text: &[u8], refusals: &[u8]) -> FiledAll {
     let mut all = FiledAll { used, register: register.to_vec(), refusals: refusals.to_vec() };
     for (place, line) in lines_of(text).into_iter().enumerate() {
-        let refusal = match book::file(&mut all.register, all.used, line) {
+        let refusal = match reference::register::file(&mut all.register, all.used, line) {
             Ok(used) => {
                 all.used = used;
                 0
@@ -166,26 +154,4 @@ fn file_one_by_one(register: &[u8], used: usize, text: &[u8], refusals: &[u8]) -
         }
     }
     all
-}
-
-/// The reference's quote as the C interface gives it.
-fn expected_quote(line: &[u8]) -> Quote {
-    match reference::quote(line) {
-        Err(refusal) => Quote { refusal: u32::from(refusal.number()), ..Quote::default() },
-        Ok(quote) => Quote {
-            refusal: 0,
-            member: quote.member,
-            total: quote.total.0,
-            lump: quote.lump.map(|LumpPence(pence)| pence),
-            remaining: quote.remaining.map(|YearlyPence(pence)| pence),
-            second: quote.second.map(|LumpPence(pence)| pence),
-        },
-    }
-}
-
-fn expected_found(found: Result<Range<usize>, Refusal>) -> Found {
-    match found {
-        Ok(place) => Found { refusal: 0, offset: place.start, length: place.len() },
-        Err(refusal) => Found { refusal: u32::from(refusal.number()), ..Found::default() },
-    }
 }

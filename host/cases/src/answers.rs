@@ -1,0 +1,54 @@
+//! The reference's answers in the structs of the C interface.
+
+use std::ops::Range;
+
+use engine::{Checked, Filed, Found, Quote};
+use reference::money::{LumpPence, YearlyPence};
+use reference::{register as book, Refusal};
+
+pub fn quote(line: &[u8]) -> Quote {
+    match reference::quote(line) {
+        Err(refusal) => Quote { refusal: number(refusal), ..Quote::default() },
+        Ok(quote) => Quote {
+            refusal: 0,
+            member: quote.member,
+            total: quote.total.0,
+            lump: quote.lump.map(|LumpPence(pence)| pence),
+            remaining: quote.remaining.map(|YearlyPence(pence)| pence),
+            second: quote.second.map(|LumpPence(pence)| pence),
+        },
+    }
+}
+
+pub fn check(register: &[u8], used: usize) -> Checked {
+    match book::check(register, used) {
+        Ok(_) => Checked::default(),
+        Err(bad) => Checked { refusal: number(Refusal::Register), offset: bad.0 },
+    }
+}
+
+pub fn file(register: &mut [u8], used: usize, line: &[u8]) -> Filed {
+    match book::file(register, used, line) {
+        Ok(used) => Filed { refusal: 0, used },
+        Err(refusal) => Filed { refusal: number(refusal), used: 0 },
+    }
+}
+
+pub fn find_number(register: &[u8], used: usize, number: u32) -> Found {
+    found(book::find_number(register, used, number))
+}
+
+pub fn find_member(register: &[u8], used: usize, member: u32) -> Found {
+    found(book::find_member(register, used, member))
+}
+
+fn found(found: Result<Range<usize>, Refusal>) -> Found {
+    match found {
+        Ok(place) => Found { refusal: 0, offset: place.start, length: place.len() },
+        Err(refusal) => Found { refusal: number(refusal), ..Found::default() },
+    }
+}
+
+fn number(refusal: Refusal) -> u32 {
+    u32::from(refusal.number())
+}
