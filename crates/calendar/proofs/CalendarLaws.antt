@@ -104,9 +104,9 @@ pub record InRange (d : Date) : Type 0 where
   pub last-year : d .year ≤ 2199
   pub first-month : 1 ≤ d .month
   pub last-month : d .month ≤ 12
+  pub last-of-month : d .day ≤ monthLength (d .year) (d .month)
   pub first-day : 1 ≤ d .day
   pub last-day : d .day ≤ 31
-  pub last-of-month : d .day ≤ monthLength (d .year) (d .month)
 
 pub calendar-range : (d : Date) → inCalendar d ≡ true → InRange d
 unfolding inCalendar yearIn monthIn dayIn lengthIn

@@ -1,6 +1,6 @@
 // Table 1 of document 001: the commutation factor by age, in hundredths.
 ghost use mathlib.Core.Path.{_≡_};
-ghost use Rattle.factors.specs.Commutation.{table1, commutationFactor};
+ghost use Rattle.factors.specs.Commutation.{table1};
 
 // Ages 53 years 0 months to 72 years 11 months, a month an entry.
 const TABLE_1: [u16; 240] = [
@@ -258,14 +258,4 @@ pub fn table_factor(age: u32) -> u16
     }
     let at = (age - 636) as usize;
     TABLE_1[at]
-}
-
-// F1 of a pension: the factor given, or the table's at the age where that is 0.
-pub fn commutation_factor(given: u16, age: u32) -> u16
-    ensures { λ r. ⌜ r ≡ commutationFactor given age ⌝ }
-{
-    if given == 0 {
-        return table_factor(age);
-    }
-    given
 }

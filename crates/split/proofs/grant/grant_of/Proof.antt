@@ -1,7 +1,7 @@
 -- `grant_of` is the definition `grant`: prices, caps and the priced limit are worked out one pension after the other, and as
 -- many turns are taken as there are pensions.
 use Prim.Native.Nat.{ℕ, _+_, _-_, _*_, _≤_, _<_, zero-le}
-use mathlib.Core.List.{map}
+use mathlib.Core.List.{List, map}
 use mathlib.Core.Path.{_≡_, refl, _∙_, ap}
 use native.Mathlib.Nat.{le-trans, le-of-lt, lt-of-lt-of-le, mul-le-mul-left, mul-le-mul-right}
 use native.Mathlib.Numerals.{add-one-le}
@@ -60,7 +60,6 @@ within : (c : tie.At-loop Inv-loop μ-loop) (k t : ℕ) → k ≤ c .before .arg
 within c k t h e =
     rw e (le-trans (sum-part (λ (b : Benefit). b .pension .0) (c .before .args .t1) k (c .before .args .n) h) (c .before .pre .2))
 
--- the turn of the loop that a place in it is in
 add-total : tie.Need-add-total Inv-loop μ-loop
 add-total c =
     let test = c .before .before .before .before .before .before in
@@ -81,26 +80,20 @@ loop-again c =
       next test,
     )
 
--- after the loop the prices and caps are those of the first n pensions
-priced : (c : tie.After-loop Inv-loop μ-loop)
-    → take (c .before .before .args .n) (c .before .loop .prices) ≡ map price (take (c .before .before .args .n) (c .before .before .args .t1))
-priced c =
-    let l = c .before .loop in
-    let a = c .before .before .args in
-    at-end (λ (k : ℕ). take k (l .prices)) (λ (k : ℕ). map price (take k (a .t1))) (l .i) (a .n) (l .inv .0) (c .loop-test .left) (l .inv .3)
-
-capped : (c : tie.After-loop Inv-loop μ-loop)
-    → take (c .before .before .args .n) (c .before .loop .caps) ≡ map cap (take (c .before .before .args .n) (c .before .before .args .t1))
-capped c =
-    let l = c .before .loop in
-    let a = c .before .before .args in
-    at-end (λ (k : ℕ). take k (l .caps)) (λ (k : ℕ). map cap (take k (a .t1))) (l .i) (a .n) (l .inv .0) (c .loop-test .left) (l .inv .4)
+-- after the loop an array that holds what is made of the first pensions holds it at each place
+made-at : (c : tie.After-loop Inv-loop μ-loop) (f : Benefit → ℕ) (xs : List ℕ)
+    → take (c .before .loop .i) xs ≡ map f (take (c .before .loop .i) (c .before .before .args .t1))
+    → (j : ℕ) → j < c .before .before .args .n → getD xs j 0 ≡ f (getD (c .before .before .args .t1) j noBenefit)
+made-at c f xs made j h =
+    let start = c .before .before in
+    let a = start .args in
+    stored-at f (a .t1) xs (a .n) j noBenefit 0 (up-to (a .t1) (four start) (start .pre .0)) h
+    (at-end (λ (k : ℕ). take k xs) (λ (k : ℕ). map f (take k (a .t1))) (c .before .loop .i) (a .n) (c .before .loop .inv .0)
+    (c .loop-test .left) made)
 
 price-at : (c : tie.After-loop Inv-loop μ-loop) (j : ℕ) → j < c .before .before .args .n
     → getD (c .before .loop .prices) j 0 ≡ price (getD (c .before .before .args .t1) j noBenefit)
-price-at c j h =
-    let start = c .before .before in
-    stored-at price (start .args .t1) _ (start .args .n) j noBenefit 0 (up-to (start .args .t1) (four start) (start .pre .0)) h (priced c)
+price-at c = made-at c price (c .before .loop .prices) (c .before .loop .inv .3)
 
 take-turns-requires : tie.Need-take-turns-requires Inv-loop μ-loop
 take-turns-requires c κs =
@@ -127,7 +120,7 @@ returns c =
     in (
       grant-made (a .t1) (a .n) _ _ _ inside
           (rows-start (l .prices) (l .caps) (a .t1) 4 (a .n) (l .inv .1) (l .inv .2) (start .pre .0) inside (price-at after)
-          (λ j h. stored-at cap (a .t1) _ (a .n) j noBenefit 0 inside h (capped after)))
+          (made-at after cap (l .caps) (l .inv .4)))
           limit (c .take-turns .ensures .0),
       c .take-turns .ensures .1,
     )
