@@ -1,6 +1,6 @@
 -- `filed_for_c` is the definition `filedForC`, field by field.
 use mathlib.Core.Path.{refl}
-use borrow.Author.Needs.{needs}
+use native.Mathlib.Omega.{arith}
 use Rattle.pension.specs.Interface.{filedForC}
 use Rattle.pension.proofs.filed_for_c.Statement.{statement}
 use Rattle.pension.proofs.filed_for_c.Tie as tie
@@ -10,4 +10,4 @@ unfolding filedForC
 returns c = refl
 
 pub filed-for-c-spec : {M : Type 1} → statement M
-filed-for-c-spec = tie.close (tie.spec (search needs) returns)
+filed-for-c-spec = tie.close (tie.spec (λ c. omega arith) returns)

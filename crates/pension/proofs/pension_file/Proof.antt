@@ -1,6 +1,6 @@
 -- `pension_file` gives what the engine's `file` answered, and leaves the bytes that it left.
 use mathlib.Core.Path.{_∙_, ap}
-use borrow.Author.Needs.{needs}
+use native.Mathlib.Omega.{arith}
 use Rattle.pension.specs.Interface.{filedForC}
 use Rattle.pension.proofs.pension_file.Statement.{statement}
 use Rattle.pension.proofs.pension_file.Tie as tie
@@ -11,4 +11,4 @@ returns c =
     (c .filed-for-c .ensures ∙ ap filedForC (filed .ensures .0), filed .ensures .1)
 
 pub pension-file-spec : {M : Type 1} → statement M
-pension-file-spec = tie.close (tie.spec (search needs) (search needs) (search needs) returns)
+pension-file-spec = tie.close (tie.spec (λ c. omega arith) (λ c. omega arith) (λ c. omega arith) returns)

@@ -1,7 +1,7 @@
 -- `pension_quote` gives the engine's quote, field by field; a quote has four shares.
 use mathlib.Core.Path.{_∙_, ap}
+use native.Mathlib.Omega.{arith}
 use lib.ListN.{length}
-use borrow.Author.Needs.{needs}
 use Rattle.split.specs.declared.answers.Quote.{Quote}
 use Rattle.split.proofs.QuoteLaws.{quote-fits}
 use Rattle.pension.specs.Interface.{quoteForC}
@@ -15,4 +15,4 @@ returns : tie.Need-returns
 returns c = c .quote-for-c .ensures ∙ ap quoteForC (c .before .quote .ensures)
 
 pub pension-quote-spec : {M : Type 1} → statement M
-pension-quote-spec = tie.close (tie.spec (search needs) quote-for-c-requires returns)
+pension-quote-spec = tie.close (tie.spec (λ c. omega arith) quote-for-c-requires returns)

@@ -1,8 +1,8 @@
 -- `keep_rest` stays inside the input, whose length stays: what is kept is no more than there is, nor than one character more than the longest line.
 use Prim.Native.Nat.{_≤_, _<_, _+_, _-_}
-use mathlib.Core.Path.{_≡_}
+use mathlib.Core.Path.{_≡_, _∙_}
 use native.Mathlib.Omega.{arith}
-use lib.ListN.{length}
+use lib.ListN.{length, length-set}
 use borrow.Author.Tests.{ltb-true}
 use borrow.Author.Needs.{needs}
 use Rattle.split.specs.Case.{longestLine}
@@ -23,7 +23,9 @@ loop-less : tie.Need-loop-less Inv-loop μ-loop
 loop-less c = omega (arith, room c)
 
 loop-again : tie.Need-loop-again Inv-loop μ-loop
-loop-again c = (omega (arith, room c), omega (arith, room c), search needs)
+loop-again c =
+    let l = c .before .before .before .loop in
+    (omega (arith, room c), omega (arith, room c), length-set (l .input) _ _ ∙ l .inv .2)
 
 same-length : tie.Need-same-length Inv-loop μ-loop
 same-length c = search needs
@@ -31,6 +33,6 @@ same-length c = search needs
 pub keep-rest-spec : {M : Type 1} → statement M
 keep-rest-spec =
     tie.close
-    (tie.spec Inv-loop μ-loop (search needs) (search needs) (search needs) (search needs) (search needs) (search needs)
-    loop-less loop-again (search needs) (search needs) (search needs) (search needs) (search needs) (search needs)
-    same-length (search needs) (search needs) (search needs))
+    (tie.spec Inv-loop μ-loop (λ c. omega arith) (λ c. omega arith) (λ c. omega arith) (λ c. omega arith) (λ c. omega arith) (λ c. omega arith)
+    loop-less loop-again (λ c. omega arith) (λ c. omega arith) (λ c. omega arith) (λ c. omega arith) (λ c. omega arith) (λ c. omega arith)
+    same-length (λ c. omega arith) (λ c. omega arith) (λ c. omega arith))

@@ -4,7 +4,6 @@ use mathlib.Core.Path.{_≡_, _∙_, ap, refl}
 use mathlib.Core.Logic.{⊎-elim}
 use native.Mathlib.Omega.{arith}
 use lib.ListN.{length}
-use borrow.Author.Needs.{needs}
 use Rattle.quotes.specs.declared.Progress.{Progress}
 use Rattle.quotes.proofs.queue.Statement.{statement}
 use Rattle.quotes.proofs.queue.Tie as tie
@@ -36,7 +35,7 @@ part-copy-end : tie.Need-part-copy-end
 part-copy-end c = omega (arith, settled (c .before))
 
 same-length : tie.Need-same-length
-same-length c = search needs
+same-length c = omega arith
 
 returns : tie.Need-returns
 returns c =
@@ -49,5 +48,5 @@ returns-2 c = settled (c .before)
 pub queue-spec : {M : Type 1} → statement M
 queue-spec =
     tie.close
-    (tie.spec (search needs) (search needs) sub-if2 add-end (search needs) (search needs) part-copy-end (search needs)
+    (tie.spec (λ c. omega arith) (λ c. omega arith) sub-if2 add-end (λ c. omega arith) (λ c. omega arith) part-copy-end (λ c. omega arith)
     same-length returns returns-2)

@@ -1,6 +1,6 @@
 -- `whole_lines` stays inside the text: its place goes down from one that is within it.
 use Prim.Native.Nat.{_≤_}
-use borrow.Author.Needs.{needs}
+use native.Mathlib.Omega.{arith}
 use Rattle.quotes.proofs.whole_lines.Statement.{statement}
 use Rattle.quotes.proofs.whole_lines.Tie as tie
 
@@ -13,5 +13,5 @@ abbrev μ-loop : tie.MeasureT-loop
 pub whole-lines-spec : {M : Type 1} → statement M
 whole-lines-spec =
     tie.close
-    (tie.spec Inv-loop μ-loop (search needs) (search needs) (search needs) (search needs) (search needs) (search needs)
-    (search needs) (search needs))
+    (tie.spec Inv-loop μ-loop (λ c. omega arith) (λ c. omega arith) (λ c. omega arith) (λ c. omega arith) (λ c. omega arith) (λ c. omega arith)
+    (λ c. omega arith) (λ c. omega arith))

@@ -1,6 +1,6 @@
 -- `quote` is the definition `quoteOf`: the line first, then its case, then the grant.
-use borrow.Author.Needs.{needs}
 use mathlib.Core.Path.{sym, _∙_}
+use native.Mathlib.Omega.{arith}
 use Rattle.split.proofs.ReadingLaws.{Read, case-read}
 use Rattle.split.proofs.QuoteLaws.{quote-unread, quote-refused, quote-granted}
 use Rattle.split.proofs.quote.Statement.{statement}
@@ -35,5 +35,5 @@ returns-3 c =
 pub quote-spec : {M : Type 1} → statement M
 quote-spec =
     tie.close
-    (tie.spec (search needs) (search needs) returns (search needs) (λ c κs. read (c .before .before .before) .few)
-    (search needs) returns-2 granted-quote-requires returns-3)
+    (tie.spec (λ c. omega arith) (λ c. omega arith) returns (λ c. omega arith) (λ c κs. read (c .before .before .before) .few)
+    (λ c. omega arith) returns-2 granted-quote-requires returns-3)

@@ -1,6 +1,5 @@
 -- `read_case` is the definition `caseOf`: the characters first, then the length, then the pensions.
 use Prim.Native.Nat.{_<_, _≤_}
-use borrow.Author.Needs.{needs}
 use mathlib.Core.Bool.{false}
 use mathlib.Core.Path.{_≡_, refl, sym, _∙_}
 use native.Mathlib.Omega.{arith}
@@ -69,5 +68,5 @@ read-case-spec =
     tie.close
     (tie.spec (λ c κs. length-unlisted _ (c .if1 .taken)) (λ c. c .unread-case .ensures)
     (λ c κs. (sized (c .before) .0, sized (c .before) .1, refl))
-    (λ c κs. search needs) returns-2 (λ c κs. search needs) (λ c κs. search needs)
-    (λ c κs. search needs) returns-3 (search needs) read-pensions-requires returns-4)
+    (λ c κs. omega arith) returns-2 (λ c κs. omega arith) (λ c κs. omega arith)
+    (λ c κs. omega arith) returns-3 (λ c. omega arith) read-pensions-requires returns-4)

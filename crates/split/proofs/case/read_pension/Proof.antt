@@ -1,5 +1,5 @@
 -- `read_pension` is the definition `pensionAt`, field by field.
-use borrow.Author.Needs.{needs}
+use native.Mathlib.Omega.{arith}
 use Rattle.split.specs.Case.{pensionAt}
 use Rattle.split.proofs.BytesLaws.{made-of, _then_}
 use Rattle.split.proofs.case.read_pension.Statement.{statement}
@@ -20,4 +20,4 @@ returns c =
 pub read-pension-spec : {M : Type 1} → statement M
 read-pension-spec =
     tie.close
-    (tie.spec (λ c κs. search needs) (λ c κs. search needs) (λ c κs. search needs) (λ c κs. search needs) (λ c κs. search needs) returns)
+    (tie.spec (λ c κs. omega arith) (λ c κs. omega arith) (λ c κs. omega arith) (λ c κs. omega arith) (λ c κs. omega arith) returns)

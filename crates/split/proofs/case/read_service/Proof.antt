@@ -1,5 +1,5 @@
 -- `read_service` is the definition `serviceAt`, date by date.
-use borrow.Author.Needs.{needs}
+use native.Mathlib.Omega.{arith}
 use Rattle.split.specs.Case.{serviceAt}
 use Rattle.split.proofs.BytesLaws.{made-of, _then_}
 use Rattle.split.proofs.case.read_service.Statement.{statement}
@@ -13,4 +13,4 @@ returns c =
     made-of (λ s e. record { start = s; end = e }) (start .date .ensures) then end .date2 .ensures
 
 pub read-service-spec : {M : Type 1} → statement M
-read-service-spec = tie.close (tie.spec (λ c κs. search needs) (λ c κs. search needs) returns)
+read-service-spec = tie.close (tie.spec (λ c κs. omega arith) (λ c κs. omega arith) returns)

@@ -1,5 +1,5 @@
 -- `read_terms` is the definition `termsAt`, field by field.
-use borrow.Author.Needs.{needs}
+use native.Mathlib.Omega.{arith}
 use Rattle.split.specs.Case.{termsAt}
 use Rattle.split.proofs.BytesLaws.{made-of, _then_}
 use Rattle.split.proofs.case.read_terms.Statement.{statement}
@@ -17,4 +17,4 @@ returns c =
 
 pub read-terms-spec : {M : Type 1} → statement M
 read-terms-spec =
-    tie.close (tie.spec (λ c κs. search needs) (λ c κs. search needs) (λ c κs. search needs) (λ c κs. search needs) returns)
+    tie.close (tie.spec (λ c κs. omega arith) (λ c κs. omega arith) (λ c κs. omega arith) (λ c κs. omega arith) returns)

@@ -1,6 +1,6 @@
 -- `unread_case` is the definition `caseOf` of a line of no right length: the characters first, then the length.
-use borrow.Author.Needs.{needs}
 use mathlib.Core.Path.{refl, sym, _∙_}
+use native.Mathlib.Omega.{arith}
 use Rattle.split.specs.Case.{headOf}
 use Rattle.split.proofs.ReadingLaws.{case-bad-character, case-bad-length}
 use Rattle.split.proofs.case.unread_case.Statement.{statement}
@@ -19,4 +19,4 @@ returns-2 c =
 pub unread-case-spec : {M : Type 1} → statement M
 unread-case-spec =
     tie.close
-    (tie.spec (λ c κs. search needs) (λ c κs. search needs) returns (λ c κs. search needs) returns-2)
+    (tie.spec (λ c κs. omega arith) (λ c κs. omega arith) returns (λ c κs. omega arith) returns-2)

@@ -4,7 +4,6 @@ use Prim.Native.Nat.{ℕ, _+_, _-_, _<_}
 use mathlib.Core.Path.{ap}
 use native.Mathlib.Omega.{arith}
 use lib.Dec.{eqb}
-use borrow.Author.Needs.{needs}
 use Rattle.split.specs.Frame.{noDigit}
 use Rattle.split.specs.Bytes.{blockLength, Decoded}
 use Rattle.split.proofs.BytesLaws.{decoded-none, decoded-again, decoded-all}
@@ -30,4 +29,4 @@ decode-spec =
     (λ c κs. (omega arith, omega arith, c .before .before .loop .inv .1)) (λ c. omega arith) (λ c. omega arith)
     (λ c. (omega arith, c .decode-block .ensures))
     (λ c κs. (omega arith, omega arith, decoded-again _ (omega arith) (c .before .before .loop .inv .1)))
-    (λ c. omega arith) (λ c. omega arith) (λ c κs. search needs) returns)
+    (λ c. omega arith) (λ c. omega arith) (λ c κs. omega arith) returns)

@@ -1,7 +1,6 @@
 -- `digit_at` is the definition `digitAt`: a character of the line, or the 0 that stands past its end.
 use native.Mathlib.Omega.{arith}
 use lib.ListN.{List·getD-eq-default}
-use borrow.Author.Needs.{needs}
 use Rattle.split.specs.Frame.{digitAt, hexValue}
 use Rattle.split.proofs.frame.digit_at.Statement.{statement}
 use Rattle.split.proofs.frame.digit_at.Tie as tie
@@ -17,4 +16,4 @@ returns-2 c = (simp (digitAt, List·getD-eq-default (c .before .before .args .li
 pub digit-at-spec : {M : Type 1} → statement M
 digit-at-spec =
     tie.close
-    (tie.spec (search needs) (search needs) (search needs) returns returns-2)
+    (tie.spec (λ c. omega arith) (λ c. omega arith) (λ c. omega arith) returns returns-2)

@@ -1,7 +1,6 @@
 -- `digits_at` is the definition `numberAt`, a digit at a time; eight digits fit its type.
 use Prim.Native.Nat.{_<_, _-_}
 use native.Mathlib.Omega.{arith}
-use borrow.Author.Needs.{needs}
 use Rattle.split.proofs.FrameLaws.{DigitsRead, read-none, read-room, read-more, read-all}
 use Rattle.split.proofs.frame.digits_at.Statement.{statement}
 use Rattle.split.proofs.frame.digits_at.Tie as tie
@@ -18,7 +17,7 @@ room c = read-room (c .before .loop .inv) (c .loop-test .taken) (c .before .befo
 pub digits-at-spec : {M : Type 1} → statement M
 digits-at-spec =
     tie.close
-    (tie.spec Inv-loop μ-loop (λ c. read-none) (λ c. omega (arith, room c)) (search needs) (search needs)
-    (λ c. omega (arith, room (c .before))) (search needs) (search needs)
+    (tie.spec Inv-loop μ-loop (λ c. read-none) (λ c. omega (arith, room c)) (λ c. omega arith) (λ c. omega arith)
+    (λ c. omega (arith, room (c .before))) (λ c. omega arith) (λ c. omega arith)
     (λ c. read-more (c .before .before .loop .inv) (c .before .loop-test .taken) (c .digit-at .ensures .0))
     (λ c. read-all (c .before .loop .inv) (c .loop-test .left)))

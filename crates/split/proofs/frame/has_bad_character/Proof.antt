@@ -2,9 +2,9 @@
 use Prim.Native.Nat.{ℕ, _-_, _≤_}
 use mathlib.Core.Path.{_≡_, refl, ap}
 use mathlib.Core.Bool.{_||_}
+use native.Mathlib.Omega.{arith}
 use lib.Dec.{eqb}
 use lib.ListN.{length, drop}
-use borrow.Author.Needs.{needs}
 use Rattle.split.specs.Frame.{badCharacter, noDigit}
 use Rattle.calendar.specs.Tests.{any}
 use Rattle.calendar.proofs.TestsLaws.{flag-more, flag-all}
@@ -19,14 +19,14 @@ abbrev μ-loop : tie.MeasureT-loop
 
 loop-holds : tie.Need-loop-holds Inv-loop μ-loop
 unfolding badCharacter
-loop-holds c = (search needs, refl)
+loop-holds c = (omega arith, refl)
 
 loop-again : tie.Need-loop-again Inv-loop μ-loop
 unfolding noDigit
 loop-again c =
     let l = c .before .before .before .loop in
     let e = ap (λ (v : ℕ). eqb v 16) (c .hex-value .ensures) in
-    (search needs, flag-more noDigit _ (l .i) 0 _ (l .bad) _ (search needs) e (l .inv .1))
+    (omega arith, flag-more noDigit _ (l .i) 0 _ (l .bad) _ (omega arith) e (l .inv .1))
 
 returns : tie.Need-returns Inv-loop μ-loop
 returns c = flag-all noDigit _ (c .before .loop .i) _ _ (c .loop-test .left) (c .before .loop .inv .1)
@@ -34,4 +34,4 @@ returns c = flag-all noDigit _ (c .before .loop .i) _ _ (c .loop-test .left) (c 
 pub has-bad-character-spec : {M : Type 1} → statement M
 has-bad-character-spec =
     tie.close
-    (tie.spec Inv-loop μ-loop loop-holds (search needs) (search needs) (search needs) (search needs) loop-again returns)
+    (tie.spec Inv-loop μ-loop loop-holds (λ c. omega arith) (λ c. omega arith) (λ c. omega arith) (λ c. omega arith) loop-again returns)

@@ -7,7 +7,6 @@ use native.Mathlib.Nat.{le-trans, le-of-lt, lt-of-lt-of-le, mul-le-mul-left, mul
 use native.Mathlib.Numerals.{add-one-le}
 use native.Mathlib.Omega.{arith}
 use lib.ListN.{length, getD, take, length-set}
-use borrow.Author.Needs.{needs}
 use mir.Facts.{fits-below}
 use Rattle.calendar.proofs.SumsLaws.{sum-next, sum-part}
 use Rattle.split.specs.declared.limits.Benefit.{Benefit}
@@ -133,7 +132,7 @@ grant-of-spec =
     (λ c. fits-below tt (mul-le-mul-right 8 (le-of-lt (place (c .before .before .before .before .before)))))
     (λ c. place (c .before .before .before .before .before))
     (λ c. fits-below tt (mul-le-mul-right 4 (le-of-lt (place (c .before .before .before .before .before)))))
-    (λ c. place (c .before .before .before .before .before)) (search needs) add-total
+    (λ c. place (c .before .before .before .before .before)) (λ c. omega arith) add-total
     (λ c. fits-below tt (add-one-le (place (c .before .before .before .before .before .before))))
     (λ c. fewer _ _ (c .before .before .before .before .before .before .loop-test .taken)) loop-again
     (λ c. fits-below tt (mul-le-mul-left 20000000000 (within (c .before .before .before) (c .before .before .before .loop .i) _ (c .before .before .before .loop .inv .0) (c .before .before .before .loop .inv .5))))

@@ -1,6 +1,5 @@
 -- `most_of` is the definition `most`: the branch takes the lesser of the cap and what is left over the price.
 use native.Mathlib.Omega.{arith}
-use borrow.Author.Needs.{needs}
 use Rattle.split.specs.Grant.{most}
 use Rattle.split.proofs.grant.most_of.Statement.{statement}
 use Rattle.split.proofs.grant.most_of.Tie as tie
@@ -14,4 +13,4 @@ unfolding most
 returns-2 c = omega arith
 
 pub most-of-spec : {M : Type 1} → statement M
-most-of-spec = tie.close (tie.spec (search needs) (search needs) returns (search needs) returns-2)
+most-of-spec = tie.close (tie.spec (λ c. omega arith) (λ c. omega arith) returns (λ c. omega arith) returns-2)

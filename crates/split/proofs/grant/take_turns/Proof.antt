@@ -7,7 +7,6 @@ use native.Mathlib.Nat.{le-refl, le-trans, sub-le, le-of-lt, lt-of-lt-of-le, sub
 use native.Mathlib.Numerals.{add-one-le}
 use native.Mathlib.Omega.{arith}
 use lib.ListN.{length, getD, take, set, replicate, length-set}
-use borrow.Author.Needs.{needs}
 use mir.Facts.{fits-le, fits-below}
 use Rattle.split.specs.Grant.{Row, rowAt, most, turns, lumpsOf}
 use Rattle.split.specs.Arrays.{rowsIn}
@@ -99,7 +98,7 @@ take-turns-spec =
     (λ c. fits-below tt (mul-le-mul-right 4 (le-of-lt (place (c .before))))) (λ c. place (c .before))
     (λ c κs. c .before .before .before .before .before .before .before .pre .3 _ (c .before .before .if1 .left))
     (λ c. fits-below tt (mul-le-mul-right 4 (le-of-lt (place (c .before .before .before)))))
-    (λ c. place (c .before .before .before)) (λ c. place (c .before .before .before)) (search needs)
+    (λ c. place (c .before .before .before)) (λ c. place (c .before .before .before)) (λ c. omega arith)
     (λ c. fits-le (le-trans (affordable c) (c .before .before .before .before .before .before .before .before .loop .inv .3)) (c .before .before .before .before .before .before .before .before .before .fits .limit)) affordable
     (λ c. fits-below tt (add-one-le (lt-of-lt-of-le (c .before .before .before .before .before .before .before .loop-test .taken) (c .before .before .before .before .before .before .before .before .before .pre .0))))
     (λ c. fewer _ _ (c .before .before .before .before .before .before .before .loop-test .taken)) loop-again returns-2)

@@ -1,6 +1,6 @@
 -- `benefit_of` is the definition `benefitOf`, part by part, by what its calls promise.
 use mathlib.Core.Path.{_≡_}
-use borrow.Author.Needs.{needs}
+use native.Mathlib.Omega.{arith}
 use Rattle.split.specs.Benefits.{factorOf}
 use Rattle.split.proofs.BenefitsLaws.{factor-made, benefit-made}
 use Rattle.split.proofs.limits.benefit_of.Statement.{statement}
@@ -29,4 +29,4 @@ returns c =
 pub benefit-of-spec : {M : Type 1} → statement M
 benefit-of-spec =
     tie.close
-    (tie.spec (search needs) (search needs) (search needs) (search needs) cap-of-requires returns)
+    (tie.spec (λ c. omega arith) (λ c. omega arith) (λ c. omega arith) (λ c. omega arith) cap-of-requires returns)

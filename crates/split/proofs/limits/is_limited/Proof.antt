@@ -1,7 +1,7 @@
 -- `is_limited` is the definition `limitedLump`, by what its call promises.
 use mathlib.Core.Bool.{_&&_, _||_}
+use native.Mathlib.Omega.{arith}
 use lib.Dec.{eqb}
-use borrow.Author.Needs.{needs}
 use Rattle.calendar.specs.Tests.{within}
 use Rattle.split.specs.Benefits.{limitedLump}
 use Rattle.split.proofs.limits.is_limited.Statement.{statement}
@@ -15,4 +15,4 @@ returns c =
     λ i. (eqb (p .kind) 1 || eqb (p .kind) 2) && (within 300 359 (months i) && eqb (p .lift) 0)
 
 pub is-limited-spec : {M : Type 1} → statement M
-is-limited-spec = tie.close (tie.spec (search needs) returns)
+is-limited-spec = tie.close (tie.spec (λ c. omega arith) returns)

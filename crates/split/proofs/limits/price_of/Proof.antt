@@ -1,7 +1,6 @@
 -- `price_of` is the definition `priceOf`; a quotient rounded up is small, and the ranges of E keep the sum within 64 bits.
 use Prim.Native.Nat.{_*_}
 use native.Mathlib.Omega.{arith}
-use borrow.Author.Needs.{needs}
 use Rattle.split.specs.Limits.{priceOf}
 use Rattle.split.proofs.LimitsLaws.{rounded-small}
 use Rattle.split.proofs.limits.price_of.Statement.{statement}
@@ -14,7 +13,7 @@ add-result c =
 
 returns : tie.Need-returns
 unfolding priceOf
-returns c = search needs
+returns c = omega arith
 
 pub price-of-spec : {M : Type 1} → statement M
-price-of-spec = tie.close (tie.spec (search needs) (search needs) add-result returns)
+price-of-spec = tie.close (tie.spec (λ c. omega arith) (λ c. omega arith) add-result returns)

@@ -2,7 +2,6 @@
 use native.Mathlib.Nat.{mul-le-mul}
 use mathlib.Core.Path.{refl}
 use native.Mathlib.Omega.{arith}
-use borrow.Author.Needs.{needs}
 use Rattle.split.specs.Benefits.{quarterLump}
 use Rattle.split.proofs.BenefitsLaws.{quarter-at-most}
 use Rattle.split.proofs.limits.quarter_lump.Statement.{statement}
@@ -26,4 +25,4 @@ returns c =
     (refl, omega (arith, quarter-at-most (start .args .pension .0) (start .args .e) (start .pre .1)))
 
 pub quarter-lump-spec : {M : Type 1} → statement M
-quarter-lump-spec = tie.close (tie.spec (search needs) mul-t4 (search needs) (search needs) cast-t7 returns)
+quarter-lump-spec = tie.close (tie.spec (λ c. omega arith) mul-t4 (λ c. omega arith) (λ c. omega arith) cast-t7 returns)

@@ -1,5 +1,5 @@
 -- `worked_pension` is the definition `workedPension`, branch by branch.
-use borrow.Author.Needs.{needs}
+use native.Mathlib.Omega.{arith}
 use Rattle.split.proofs.BenefitsLaws.{worked-early, worked-whole}
 use Rattle.split.proofs.limits.worked_pension.Statement.{statement}
 use Rattle.split.proofs.limits.worked_pension.Tie as tie
@@ -14,4 +14,4 @@ returns-2 : tie.Need-returns-2
 returns-2 c = worked-whole _ _ _ (c .before .before .before .pre) (c .if1 .left)
 
 pub worked-pension-spec : {M : Type 1} → statement M
-worked-pension-spec = tie.close (tie.spec (search needs) (search needs) returns returns-2)
+worked-pension-spec = tie.close (tie.spec (λ c. omega arith) (λ c. omega arith) returns returns-2)

@@ -1,8 +1,8 @@
 -- `granted_quote` is the grant of an accepted case: what each callee asks holds of such a case, and their promises compose.
-use borrow.Author.Needs.{needs}
 use mathlib.Core.List.{List}
 use mathlib.Core.Path.{_≡_, refl, _∙_, ap}
 use Prim.Native.Nat.{ℕ}
+use native.Mathlib.Omega.{arith}
 use lib.ListN.{length}
 use Rattle.factors.specs.declared.money.LumpPence.{LumpPence}
 use Rattle.split.specs.declared.case.Head.{Head}
@@ -35,7 +35,7 @@ composed h ps bs lumps sum shares worked granted summed shared =
 benefits-of-requires : tie.Need-benefits-of-requires
 benefits-of-requires c κs =
     let a = c .args in
-    let four : length (a .pensions) ≡ 4 = search needs in
+    let four : length (a .pensions) ≡ 4 = omega arith in
     (c .pre .0, benefits-in-range (a .head) (a .pensions) (a .n) (c .pre .0) four (c .pre .1))
 
 grant-of-requires : tie.Need-grant-of-requires
@@ -43,7 +43,7 @@ grant-of-requires c κs =
     let worked = c .before in
     let a = worked .before .args in
     let p = worked .before .pre in
-    let four : length (a .pensions) ≡ 4 = search needs in
+    let four : length (a .pensions) ≡ 4 = omega arith in
     let range = grant-in-range (a .head) (a .pensions) (a .n) (p .0) four (p .1) (worked .benefits-of .result) (worked .benefits-of .ensures .0) in
     (p .0, range .0, range .1, refl)
 
@@ -53,7 +53,7 @@ total-of-requires c κs =
     let worked = granted .before .before in
     let a = worked .before .args in
     let p = worked .before .pre in
-    let four : length (a .pensions) ≡ 4 = search needs in (
+    let four : length (a .pensions) ≡ 4 = omega arith in (
       p .0,
       granted .grant-of .ensures .1,
       lumps-small (a .head) (a .pensions) (a .n) (p .0) four (p .1) (worked .benefits-of .result) (worked .benefits-of .ensures .0)
@@ -66,7 +66,7 @@ shares-of-requires c κs =
     let worked = granted .before .before in
     let a = worked .before .args in
     let p = worked .before .pre in
-    let four : length (a .pensions) ≡ 4 = search needs in (
+    let four : length (a .pensions) ≡ 4 = omega arith in (
       shares-range (a .head) (a .pensions) (a .n) (p .0) four (p .1) (worked .benefits-of .result)
           (worked .benefits-of .ensures .0) _ (granted .grant-of .ensures .0),
       granted .grant-of .ensures .1,

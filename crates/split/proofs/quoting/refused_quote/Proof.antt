@@ -1,8 +1,8 @@
 -- `refused_quote` is the definition `refusedQuote`: each of its four shares is what `no_share` gives.
 use Prim.Native.Nat.{ℕ}
 use mathlib.Core.Path.{_≡_}
+use native.Mathlib.Omega.{arith}
 use lib.ListN.{replicate}
-use borrow.Author.Needs.{needs}
 use Rattle.split.specs.declared.answers.Share.{Share}
 use Rattle.split.specs.declared.answers.Quote.{Quote}
 use Rattle.split.specs.Quote.{noShare, refusedQuote}
@@ -18,4 +18,4 @@ returns : tie.Need-returns
 returns c = figures (c .before .args .refusal) (c .no-share .result) (c .no-share .ensures)
 
 pub refused-quote-spec : {M : Type 1} → statement M
-refused-quote-spec = tie.close (tie.spec (search needs) returns)
+refused-quote-spec = tie.close (tie.spec (λ c. omega arith) returns)

@@ -1,7 +1,6 @@
 -- `remaining_of` takes what a lump gives up off the pension: the range of its arguments keeps the product within 64 bits.
 use native.Mathlib.Nat.{mul-le-mul}
 use native.Mathlib.Omega.{arith}
-use borrow.Author.Needs.{needs}
 use Rattle.split.specs.Quote.{remainingOf}
 use Rattle.split.proofs.quoting.remaining_of.Statement.{statement}
 use Rattle.split.proofs.quoting.remaining_of.Tie as tie
@@ -13,8 +12,8 @@ mul-given-up c =
 
 returns : tie.Need-returns
 unfolding remainingOf
-returns c = search needs
+returns c = omega arith
 
 pub remaining-of-spec : {M : Type 1} → statement M
 remaining-of-spec =
-    tie.close (tie.spec (search needs) mul-given-up (search needs) (search needs) (search needs) returns)
+    tie.close (tie.spec (λ c. omega arith) mul-given-up (λ c. omega arith) (λ c. omega arith) (λ c. omega arith) returns)

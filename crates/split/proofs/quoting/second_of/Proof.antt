@@ -3,7 +3,6 @@ use Prim.Native.Nat.{ℕ, _*_, _/_, _≤_}
 use mathlib.Core.Path.{_≡_}
 use native.Mathlib.Nat.{mul-le-mul}
 use native.Mathlib.Omega.{arith}
-use borrow.Author.Needs.{needs}
 use borrow.Author.Tests.{eq-eqb, ne-eqb}
 use Rattle.split.specs.declared.case.Pension.{Pension}
 use Rattle.split.specs.Quote.{secondOf}
@@ -38,4 +37,4 @@ returns-2 : tie.Need-returns-2
 returns-2 c = other (c .before .before .args .p) (c .before .before .args .lump .0) (c .if1 .left)
 
 pub second-of-spec : {M : Type 1} → statement M
-second-of-spec = tie.close (tie.spec (search needs) (search needs) mul-t7 cast-t9 returns returns-2)
+second-of-spec = tie.close (tie.spec (λ c. omega arith) (λ c. omega arith) mul-t7 cast-t9 returns returns-2)

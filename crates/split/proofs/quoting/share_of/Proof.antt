@@ -1,7 +1,7 @@
 -- `share_of` puts together the figures that its calls give, which are those of the definition `shareOf`.
 use Prim.Native.Nat.{ℕ}
 use mathlib.Core.Path.{_≡_}
-use borrow.Author.Needs.{needs}
+use native.Mathlib.Omega.{arith}
 use Rattle.split.specs.declared.case.Head.{Head}
 use Rattle.split.specs.declared.case.Pension.{Pension}
 use Rattle.split.specs.declared.limits.Benefit.{Benefit}
@@ -26,4 +26,4 @@ returns c =
     (c .second-of .result .0) (start .pre .0) (c .before .remaining-of .ensures) (c .second-of .ensures)
 
 pub share-of-spec : {M : Type 1} → statement M
-share-of-spec = tie.close (tie.spec (search needs) (search needs) returns)
+share-of-spec = tie.close (tie.spec (λ c. omega arith) (λ c. omega arith) returns)

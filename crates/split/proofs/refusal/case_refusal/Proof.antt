@@ -6,7 +6,6 @@ use native.Mathlib.Nat.{le-of-lt, lt-of-lt-of-le, mul-le-mul-right}
 use native.Mathlib.Numerals.{add-one-le}
 use native.Mathlib.Omega.{arith}
 use lib.ListN.{length, take}
-use borrow.Author.Needs.{needs}
 use mir.Facts.{fits-below}
 use Rattle.calendar.specs.Tests.{lowest}
 use Rattle.calendar.proofs.SumsLaws.{sum-next}
@@ -96,6 +95,6 @@ case-refusal-spec =
     tie.close
     (tie.spec Inv-loop μ-loop (λ c κs. tt) head-refusal-requires loop-holds
     (λ c. fits-below tt (mul-le-mul-right 28 (le-of-lt (place c)))) place pension-refusal-requires (λ c κs. tt)
-    (search needs) (search needs) (λ c. fits-below tt (add-one-le (place (c .before .before .before .before))))
+    (λ c. omega arith) (λ c. omega arith) (λ c. fits-below tt (add-one-le (place (c .before .before .before .before))))
     (λ c. fewer _ _ (c .before .before .before .before .loop-test .taken)) loop-again (λ c κs. tt) returns
     returns-2)

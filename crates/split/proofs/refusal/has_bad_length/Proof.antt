@@ -1,12 +1,18 @@
 -- `has_bad_length` is the definition `badLength`, test by test.
-use borrow.Author.Needs.{needs}
+use mathlib.Core.Bool.{Bool, not, _&&_}
+use mathlib.Core.Path.{ap}
+use native.Mathlib.Omega.{arith}
+use lib.Dec.{eqb}
+use Rattle.split.specs.Case.{caseLength}
 use Rattle.split.specs.Refusal.{badLength}
 use Rattle.split.proofs.refusal.has_bad_length.Statement.{statement}
 use Rattle.split.proofs.refusal.has_bad_length.Tie as tie
 
 returns : tie.Need-returns
 unfolding badLength
-returns c = cc
+returns c =
+    let a = c .before .args in
+    ap (λ (counted : Bool). not (counted && eqb (a .characters) (caseLength (a .n)))) (c .is-within .ensures)
 
 pub has-bad-length-spec : {M : Type 1} → statement M
-has-bad-length-spec = tie.close (tie.spec (search needs) (search needs) (search needs) returns)
+has-bad-length-spec = tie.close (tie.spec (λ c. omega arith) (λ c. omega arith) (λ c. omega arith) returns)

@@ -1,7 +1,7 @@
 -- `head_refusal`: the first test that passes is the lowest condition.
 use mathlib.Core.Bool.{or-false}
 use mathlib.Core.Path.{_≡_, sym, _∙_, ap}
-use borrow.Author.Needs.{needs}
+use native.Mathlib.Omega.{arith}
 use Rattle.split.specs.Refusal.{ageOf, badAge, conditionsWith}
 use Rattle.split.proofs.refusal.head_refusal.Statement.{statement}
 use Rattle.split.proofs.refusal.head_refusal.Tie as tie
@@ -25,4 +25,4 @@ returns-3 c =
     simp (conditionsWith, or-false, ← c .before .before .before .is-undated-head .ensures, c .before .before .if1 .left, aged (c .before), c .if2 .left)
 
 pub head-refusal-spec : {M : Type 1} → statement M
-head-refusal-spec = tie.close (tie.spec (search needs) returns (search needs) returns-2 returns-3)
+head-refusal-spec = tie.close (tie.spec (λ c. omega arith) returns (λ c. omega arith) returns-2 returns-3)

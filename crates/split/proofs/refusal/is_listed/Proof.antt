@@ -2,8 +2,8 @@
 use Prim.Native.Nat.{ℕ, zero-le}
 use mathlib.Core.Path.{_≡_, refl, _∙_, ap}
 use mathlib.Core.Bool.{Bool, true, false, cond, _&&_}
+use native.Mathlib.Omega.{arith}
 use lib.Dec.{leb, eqb}
-use borrow.Author.Needs.{needs}
 use borrow.Author.Tests.{le-leb}
 use Rattle.calendar.specs.Tests.{within}
 use Rattle.calendar.proofs.TestsLaws.{leb-zero}
@@ -23,4 +23,4 @@ returns c =
     ∙ chosen (args .applies) (args .low) (args .high) (args .x)
 
 pub is-listed-spec : {M : Type 1} → statement M
-is-listed-spec = tie.close (tie.spec (search needs) (search needs) (search needs) returns)
+is-listed-spec = tie.close (tie.spec (λ c. omega arith) (λ c. omega arith) (λ c. omega arith) returns)

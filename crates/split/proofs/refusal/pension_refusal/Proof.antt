@@ -1,6 +1,6 @@
 -- `pension_refusal`: the first test that passes is the lowest condition; those after the kind are the callee's.
-use borrow.Author.Needs.{needs}
 use mathlib.Core.Path.{sym, _∙_}
+use native.Mathlib.Omega.{arith}
 use Rattle.split.proofs.ConditionsLaws.{pension-lowest}
 use Rattle.split.proofs.refusal.pension_refusal.Statement.{statement}
 use Rattle.split.proofs.refusal.pension_refusal.Tie as tie
@@ -28,4 +28,4 @@ returns-4 c =
 pub pension-refusal-spec : {M : Type 1} → statement M
 pension-refusal-spec =
     tie.close
-    (tie.spec (search needs) returns (search needs) returns-2 (search needs) returns-3 (search needs) returns-4)
+    (tie.spec (λ c. omega arith) returns (λ c. omega arith) returns-2 (λ c. omega arith) returns-3 (λ c. omega arith) returns-4)

@@ -1,5 +1,5 @@
 -- `terms_refusal`: the first test that passes is the lowest condition.
-use borrow.Author.Needs.{needs}
+use native.Mathlib.Omega.{arith}
 use Rattle.split.proofs.refusal.terms_refusal.Statement.{statement}
 use Rattle.split.proofs.refusal.terms_refusal.Tie as tie
 
@@ -21,4 +21,4 @@ returns-5 c = simp (← c .before .before .before .before .before .before .befor
 pub terms-refusal-spec : {M : Type 1} → statement M
 terms-refusal-spec =
     tie.close
-    (tie.spec (search needs) returns (search needs) returns-2 (search needs) returns-3 (search needs) returns-4 returns-5)
+    (tie.spec (λ c. omega arith) returns (λ c. omega arith) returns-2 (λ c. omega arith) returns-3 (λ c. omega arith) returns-4 returns-5)

@@ -1,5 +1,5 @@
 -- `date` is the definition `dateAt`, part by part.
-use borrow.Author.Needs.{needs}
+use native.Mathlib.Omega.{arith}
 use Rattle.calendar.specs.Calendar.{date}
 use Rattle.split.specs.Frame.{dateAt}
 use Rattle.split.proofs.BytesLaws.{made-of, _then_}
@@ -15,4 +15,4 @@ returns c =
     made-of date (year .short .ensures) then month .byte .ensures then day .byte2 .ensures
 
 pub date-spec : {M : Type 1} → statement M
-date-spec = tie.close (tie.spec (λ c κs. search needs) (λ c κs. search needs) (λ c κs. search needs) returns)
+date-spec = tie.close (tie.spec (λ c κs. omega arith) (λ c κs. omega arith) (λ c κs. omega arith) returns)

@@ -1,5 +1,5 @@
 -- `number` is a number of 8 digits: two of 4, joined.
-use borrow.Author.Needs.{needs}
+use native.Mathlib.Omega.{arith}
 use Rattle.split.proofs.BytesLaws.{number-joined}
 use Rattle.split.proofs.frame.Cursor.number.Statement.{statement}
 use Rattle.split.proofs.frame.Cursor.number.Tie as tie
@@ -12,4 +12,4 @@ returns c =
 pub number-spec : {M : Type 1} → statement M
 number-spec =
     tie.close
-    (tie.spec (λ c κs. search needs) (λ c κs. search needs) (search needs) (search needs) (search needs) (search needs) returns)
+    (tie.spec (λ c κs. omega arith) (λ c κs. omega arith) (λ c. omega arith) (λ c. omega arith) (λ c. omega arith) (λ c. omega arith) returns)
