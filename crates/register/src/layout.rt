@@ -45,8 +45,8 @@ fn hex_character(digit: u8) -> u8
     55 + digit
 }
 
-// Writes the values of a figure's digits from a place on. `spell` makes characters of them, for a whole line at once: that
-// takes one instruction for many digits, and half of the time that a line takes digit by digit.
+// Writes the values of a figure's digits from a place on. `spell` makes characters of them, for a whole line at once, since the
+// compiler then takes 16 digits together.
 fn write_digits(line: &mut [u8], at: usize, value: u32)
     requires { ⌜ at + figureWidth ≤ length (now line) ⌝ }
     ensures { λ _. ⌜ now (line .exit) ≡ sets (now (line .entry)) at (map hexValue (hexText figureWidth value)) ⌝ }
