@@ -1,11 +1,14 @@
 -- Laws of the effective factor for the crates above: for terms within document 01's lists it lies between 5 and 80, whatever
--- the kind. Assumes nothing.
-use Prim.Native.Nat.{_-_, _≤_}
+-- the kind, and so do the multiples of its top and bottom that the code works with. Assumes nothing.
+use mathlib.Core.Bool.{Bool, true, false, cond}
+use Prim.Native.Nat.{ℕ, _-_, _*_, _≤_, _<_}
 use native.Mathlib.Nat.{mul-le-mul-left}
 use native.Mathlib.Omega.{arith}
+use lib.Dec.{eqb}
 use lib.ListN.{List·getD-eq-default}
+use Rattle.factors.specs.declared.effective.Factor.{Factor}
 use Rattle.factors.specs.declared.effective.FactorTerms.{FactorTerms}
-use Rattle.factors.specs.Effective.{lumpTop, lumpBottom, effectiveFactor, FactorRange}
+use Rattle.factors.specs.Effective.{lumpTop, lumpBottom, effectiveFactor, FactorRange, multiplier, multiple}
 
 -- kind 1
 pub direct-range : (t : FactorTerms) → 500 ≤ t .f1 → t .f1 ≤ 4000 → FactorRange (effectiveFactor 1 t)
@@ -37,3 +40,25 @@ deferred-range t d =
 pub active-range : (t : FactorTerms) → FactorRange (effectiveFactor 3 t)
 unfolding effectiveFactor
 active-range t = omega arith
+
+-- the multiple of the code
+pub multiplier-positive : (kind : ℕ) → 0 < multiplier kind
+unfolding multiplier
+multiplier-positive kind = go (eqb kind 1) (eqb kind 2)
+  where
+    go : (a b : Bool) → 0 < cond a 100000 (cond b 1 10000000)
+    go true b = omega arith
+    go false true = omega arith
+    go false false = omega arith
+
+pub multiple-range : (kind : ℕ) (t : FactorTerms) → FactorRange (effectiveFactor kind t)
+    → FactorRange (multiple (multiplier kind) (effectiveFactor kind t))
+unfolding effectiveFactor multiplier multiple
+multiple-range kind t = go (eqb kind 1) (eqb kind 2)
+  where
+    go : (a b : Bool)
+        → let e : Factor = cond a (record { top = t .f1; bottom = 100 }) (cond b (record { top = 10 * lumpTop t; bottom = lumpBottom t }) (record { top = 12; bottom = 1 })) in
+        FactorRange e → FactorRange (multiple (cond a 100000 (cond b 1 10000000)) e)
+    go true b r = omega arith
+    go false true r = omega arith
+    go false false r = omega arith

@@ -28,3 +28,11 @@ pub record FactorRange (e : Factor) : Type 0 where
   pub bottom-high : e .bottom ≤ 20000000
   pub least : 5 * e .bottom ≤ e .top
   pub most : e .top ≤ 80 * e .bottom
+
+-- E of every kind as 10N/D, for the code: the top and the bottom of E times a number that goes by the kind. Nothing here has
+-- to be believed.
+unfoldable pub multiplier : ℕ → ℕ
+multiplier kind = cond (eqb kind 1) 100000 (cond (eqb kind 2) 1 10000000)
+
+unfoldable pub multiple : ℕ → Factor → Factor
+multiple m e = record { top = m * e .top; bottom = m * e .bottom }

@@ -15,6 +15,7 @@ pub mod HexLaws
 pub mod Level
 pub mod LimitsLaws
 pub mod ListLoop
+pub mod MultipleLaws
 pub mod Prices
 pub mod QuoteLaws
 pub mod QuotingLoop
