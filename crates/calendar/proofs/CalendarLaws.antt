@@ -3,7 +3,7 @@
 -- has in every year, or as 29 February; months to the 60th birthday never pass a bound that the age gives, and it is not
 -- past while the age is below 720 months. Assumes nothing.
 use mathlib.Core.Path.{_≡_, refl, sym, _∙_, ap}
-use mathlib.Core.Bool.{Bool, true, false, cond, _&&_, _||_, and-true, true≢false, false≢true}
+use mathlib.Core.Bool.{Bool, true, false, cond, _&&_, _||_, true≢false, false≢true}
 use mathlib.Core.Logic.{_⊎_, inl, inr, ⊎-elim}
 use Prim.Native.Nat.{ℕ, _+_, _-_, _*_, _≤_, _<_}
 use native.Mathlib.Nat.{sub-zero, le-of-lt, mul-le-mul-right}
@@ -14,7 +14,7 @@ use borrow.Author.Tests.{ltb-true, eqb-true, leb-true, leb-false, lt-ltb, le-ltb
 use Rattle.calendar.specs.declared.Date.{Date}
 use Rattle.calendar.specs.Tests.{within}
 use Rattle.calendar.proofs.TestsLaws.{and-left, and-right, not-true-false, within-bounds}
-use Rattle.calendar.specs.Calendar.{leap, thirty, monthLength, beforeBy, earlier, inCalendar, yearIn, monthIn, dayIn, lengthIn, monthIndex, incomplete, months, sixtiethBirthday}
+use Rattle.calendar.specs.Calendar.{leap, thirty, monthLength, usualDays, commonDate, beforeBy, earlier, inCalendar, yearIn, monthIn, dayIn, lengthIn, monthIndex, incomplete, months, sixtiethBirthday}
 
 -- what `beforeBy` says
 by-cases : (x y : ℕ) (s : Bool) → beforeBy x y s ≡ true → (x < y) ⊎ ((x ≡ y) × (s ≡ true))
@@ -126,11 +126,7 @@ calendar-range d h =
       last-of-month = leb-true _ _ (and-right (dayIn d) _ days);
     }
 
--- the days that a month has in every year, as 1901, and none where there is no such month
-abbrev usualDays : ℕ → ℕ
-usualDays m = cond (within 1 12 m) (monthLength 1901 m) 0
-
--- other years have the same, but for 29 February
+-- every year has the days of 1901, but for 29 February
 abbrev ByYear : ℕ → ℕ → ℕ → Type 0
 ByYear m usual days = (usual ≤ 31) × ((days ≡ usual) ⊎ ((m ≡ 2) × (usual ≡ 28) × (days ≡ 29)))
 
@@ -145,21 +141,22 @@ length-by-year y m = go (eqb m 2) (leap y) (thirty m) refl
     go true true t e = (omega arith, inr (eqb-true m 2 e, refl, refl))
 
 usual-month : (m k : ℕ) → 1 ≤ k → k ≤ usualDays m → (within 1 12 m ≡ true) × (k ≤ monthLength 1901 m)
+unfolding usualDays
 usual-month m k low = go (within 1 12 m) refl
   where
     go : (b : Bool) → within 1 12 m ≡ b → k ≤ cond b (monthLength 1901 m) 0 → (within 1 12 m ≡ true) × (k ≤ monthLength 1901 m)
     go true e h = (e, h)
     go false e h = absurd (omega arith)
 
--- a date is in the calendar by its year where every year has its day, and by a leap year as 29 February; no other day is
-pub usual-day : (d : Date) (r : ℕ) → r ≡ usualDays (d .month) → within 1 r (d .day) ≡ true → yearIn d ≡ inCalendar d
-unfolding inCalendar monthIn dayIn lengthIn
-usual-day d r e h =
-    let days = within-bounds 1 r (d .day) h in
-    let month = usual-month (d .month) (d .day) (days .0) (rw e at (days .1)) in
+-- a date is in the calendar where every year has its day, and by a leap year as 29 February; no other day is
+pub common-in : (d : Date) → commonDate d ≡ true → inCalendar d ≡ true
+unfolding commonDate inCalendar monthIn dayIn lengthIn
+common-in d h =
+    let days = within-bounds 1 (usualDays (d .month)) (d .day) (and-right (yearIn d) _ h) in
+    let month = usual-month (d .month) (d .day) (days .0) (days .1) in
     let years = length-by-year (d .year) (d .month) in
     let last : d .day ≤ monthLength (d .year) (d .month) = ⊎-elim (λ e. omega arith) (λ e. omega arith) (years .1) in
-    simp (month .0, le-leb 1 (d .day) (days .0), le-leb (d .day) 31 (omega arith), le-leb (d .day) _ last, and-true)
+    simp (and-left (yearIn d) _ h, month .0, le-leb 1 (d .day) (days .0), le-leb (d .day) 31 (omega arith), le-leb (d .day) _ last)
 
 pub leap-day : (d : Date) → (eqb (d .month) 2 && eqb (d .day) 29) ≡ true → (yearIn d && leap (d .year)) ≡ inCalendar d
 unfolding inCalendar yearIn monthIn dayIn lengthIn monthLength
@@ -171,17 +168,17 @@ leap-day d h =
     go true = refl
     go false = refl
 
-pub no-day : (d : Date) (r : ℕ) → r ≡ usualDays (d .month) → within 1 r (d .day) ≡ false
-    → (eqb (d .month) 2 && eqb (d .day) 29) ≡ false → false ≡ inCalendar d
-no-day d r e usual leap =
-    sym (not-true-false _ (λ h.
+pub no-day : (d : Date) → commonDate d ≡ false → (eqb (d .month) 2 && eqb (d .day) 29) ≡ false → inCalendar d ≡ false
+unfolding commonDate usualDays inCalendar
+no-day d common leap =
+    not-true-false _ (λ h.
     let range = calendar-range d h in
     let past : monthLength 1901 (d .month) < d .day =
-    leb-false (d .day) _ (simp (e, le-leb 1 (d .month) (range .first-month), le-leb (d .month) 12 (range .last-month), le-leb 1 (d .day) (range .first-day)) at usual)
+    leb-false (d .day) _ (simp (and-left (yearIn d) _ h, le-leb 1 (d .month) (range .first-month), le-leb (d .month) 12 (range .last-month), le-leb 1 (d .day) (range .first-day)) at common)
     in
     ⊎-elim (λ e. omega arith)
     (λ e. true≢false (simp (eq-eqb (d .month) 2 (e .0), eq-eqb (d .day) 29 (omega arith)) at leap))
-    (length-by-year (d .year) (d .month) .1)))
+    (length-by-year (d .year) (d .month) .1))
 
 -- where the age is 660 to 719 months, there are 0 to 60 months to the 60th birthday
 pub months-to-sixtieth : (birth at : Date) → 660 ≤ months birth at → months birth at < 720 → months at (sixtiethBirthday birth) ≤ 60

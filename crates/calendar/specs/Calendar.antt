@@ -5,6 +5,7 @@ use Prim.Native.Nat.{ℕ, _+_, _-_, _*_, _%_}
 use mathlib.Core.Bool.{Bool, cond, not, _&&_, _||_}
 use lib.Dec.{leb, ltb, eqb}
 use Rattle.calendar.specs.declared.Date.{Date}
+use Rattle.calendar.specs.Tests.{within}
 
 -- the date of these three numbers
 abbrev pub date : ℕ → ℕ → ℕ → Date
@@ -38,6 +39,14 @@ lengthIn d = leb (d .day) (monthLength (d .year) (d .month))
 -- "Gregorian, 1900 to 2199"
 unfoldable pub inCalendar : Date → Bool
 inCalendar d = yearIn d && (monthIn d && (dayIn d && lengthIn d))
+
+-- The days that a month has in every year, as 1901, and none where there is no such month, and a date with such a day: any of
+-- the calendar but a 29 February. For the code; nothing here has to be believed.
+unfoldable pub usualDays : ℕ → ℕ
+usualDays m = cond (within 1 12 m) (monthLength 1901 m) 0
+
+unfoldable pub commonDate : Date → Bool
+commonDate d = yearIn d && within 1 (usualDays (d .month)) (d .day)
 
 -- before by a first number, or, where that is equal, by the rest
 abbrev pub beforeBy : ℕ → ℕ → Bool → Bool

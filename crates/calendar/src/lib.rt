@@ -1,9 +1,7 @@
 // Dates: whether they are in the calendar, their order, and the months between them.
 ghost use mathlib.Core.Path.{_≡_};
-ghost use mathlib.Core.Bool.{cond};
 ghost use Prim.Native.Nat.{_+_, _*_, _≤_};
-ghost use Rattle.calendar.specs.Calendar.{date, leap, monthLength, inCalendar, earlier, incomplete, months, sixtiethBirthday};
-ghost use Rattle.calendar.specs.Tests.{within};
+ghost use Rattle.calendar.specs.Calendar.{date, leap, usualDays, commonDate, inCalendar, earlier, incomplete, months, sixtiethBirthday};
 
 // Any three numbers of these widths, as they stand in a case line; in_calendar tells which are dates.
 pub struct Date {
@@ -23,7 +21,7 @@ fn leap_year(year: u32) -> bool
 
 // The days that a month has in every year, so without 29 February, as in 1901; 0 where there is no such month.
 fn days_of(month: u8) -> u8
-    ensures { λ r. ⌜ r ≡ cond (within 1 12 month) (monthLength 1901 month) 0 ⌝ }
+    ensures { λ r. ⌜ r ≡ usualDays month ⌝ }
 {
     match month {
         1 => 31,
@@ -42,16 +40,22 @@ fn days_of(month: u8) -> u8
     }
 }
 
+// Whether d is a date whose day its month has in every year: a date of the calendar, and any of them but a 29 February.
+pub fn is_common_date(d: Date) -> bool
+    ensures { λ r. ⌜ r ≡ commonDate d ⌝ }
+{
+    (1900 <= d.year) & (d.year <= 2199) & ((1 <= d.day) & (d.day <= days_of(d.month)))
+}
+
 // Whether d is a date of the calendar. Whether a year is a leap year takes divisions: only 29 February asks.
 pub fn in_calendar(d: Date) -> bool
     ensures { λ r. ⌜ r ≡ inCalendar d ⌝ }
 {
-    let year = (1900 <= d.year) & (d.year <= 2199);
-    if (1 <= d.day) & (d.day <= days_of(d.month)) {
-        return year;
+    if is_common_date(d) {
+        return true;
     }
     if (d.month == 2) & (d.day == 29) {
-        return year & leap_year(d.year as u32);
+        return (1900 <= d.year) & (d.year <= 2199) & leap_year(d.year as u32);
     }
     false
 }
