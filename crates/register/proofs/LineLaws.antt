@@ -46,12 +46,6 @@ figures-behind (x ∷ xs) pre rest fit =
       simp (append-assoc, length-append, hex-length) at (figures-behind xs (pre ++ hexText figureWidth x) rest (fit .1)),
     )
 
--- two lists of figures one after the other
-pub figures-append : (xs ys : List ℕ) → figuresText (xs ++ ys) ≡ figuresText xs ++ figuresText ys
-unfolding figuresText
-figures-append [] ys = refl
-figures-append (x ∷ xs) ys = simp (append-assoc, figures-append xs ys)
-
 -- the shares by their figures: how many, that they fit, and that they are read back from a place
 shares-count : (xs : List Share) → length (sharesFigures xs) ≡ length xs * length (shareFigures noShare)
 shares-count [] = refl

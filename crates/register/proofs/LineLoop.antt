@@ -1,22 +1,21 @@
--- Writing a line by stores: a run of stores in two parts, the values of a figure's digits from the last to the first, the
--- characters made of them, figures one after the other, and a line's shares. Each turn is said of what is left to do. Assumes nothing.
+-- Writing a line by stores: a run of stores in two parts, digits in any base from the last to the first, the values of each byte's
+-- digits, the characters made of them, figures one after the other, and a line's shares. Each turn is said of what is left to do.
+-- Assumes nothing.
 use Prim.Native.Nat.{ℕ, zero, suc, _+_, _*_, _/_, _%_, _≤_, _<_}
 use mathlib.Core.List.{List, [], _∷_, _++_, map, map-append, append-nil, append-assoc}
 use mathlib.Core.Path.{_≡_, refl, sym, _∙_, ap}
-use native.Mathlib.Nat.{add-zero, mod-mod}
+use native.Mathlib.Nat.{add-zero, zero-mul, mod-mod}
 use native.Mathlib.Numerals.{add-one}
 use native.Mathlib.Omega.{arith}
-use lib.Dec.{eqb}
-use lib.ListN.{length, getD, take, drop, set, length-map, drop-of-length-le}
+use lib.ListN.{length, getD, take, drop, set, length-append, length-map, drop-of-length-le}
 use lib.Seq.{length-take-le, take-all, drop-cons, append-snoc, set-comm, drop-set-lt, take-suc-set, take-at, drop-at, sets, sets-eq}
-use borrow.Author.Tests.{eqb-true}
-use Rattle.factors.proofs.Table.{below-at}
 use Rattle.split.specs.declared.answers.Share.{Share}
-use Rattle.split.specs.Frame.{hexValue, hexCharacter, hexText}
+use Rattle.split.specs.Frame.{hexCharacter, hexText}
 use Rattle.split.specs.Quote.{noShare}
 use Rattle.split.proofs.HexLaws.{hex-length, hex-none, hex-more}
-use Rattle.register.specs.Line.{figureWidth, headerLength, shareLength, shareCount, textLength, Figures, headerFigures, shareFigures, sharesFigures, lineFigures, figuresText, lineText}
-use Rattle.register.proofs.LineLaws.{figures-length, figures-append, before-length, text-length}
+use Rattle.register.specs.Line.{figureWidth, shareCount, textLength, Figures, headerFigures, shareFigures, sharesFigures, lineFigures, figuresText, lineText}
+use Rattle.register.specs.Scan.{digitsIn, byteDigits, figureBytes, headerBytes, shareBytes, figuresBytes, byteValues}
+use Rattle.register.proofs.LineLaws.{figures-length, before-length, text-length}
 
 -- a store behind a run of stores may come first
 set-sets : (l : List ℕ) (j y i : ℕ) (vs : List ℕ) → i + length vs ≤ j → set (sets l i vs) j y ≡ sets (set l j y) i vs
@@ -35,36 +34,49 @@ sets-append l i (x ∷ xs) ys =
 sets-last : (l : List ℕ) (i : ℕ) (xs : List ℕ) (y : ℕ) → sets l i (xs ++ (y ∷ [])) ≡ sets (set l (i + length xs) y) i xs
 sets-last l i xs y = sets-append l i xs (y ∷ []) ∙ set-sets l (i + length xs) y i xs (omega arith)
 
--- the values of a text's digits, and the characters that are made of values
-abbrev pub values : List ℕ → List ℕ
-values = map hexValue
+-- a run of stores over all of a list leaves nothing of it
+sets-all : (l xs : List ℕ) → length l ≡ length xs → sets l 0 xs ≡ xs
+sets-all l xs e = sets-eq xs l 0 (omega arith) ∙ rw (drop-of-length-le l {i = 0 + length xs} (omega arith)) (append-nil xs)
 
+-- the characters that are made of values
 abbrev pub spelled : List ℕ → List ℕ
 spelled = map (λ (d : ℕ). hexCharacter (d % 16))
 
--- the value of a digit's character; antt computes it at each of the 16
-value-back : (x : ℕ) → hexValue (hexCharacter (x % 16)) ≡ x % 16
-unfolding hexValue hexCharacter
-value-back x = eqb-true _ _ (below-at 16 (λ (d : ℕ). eqb (hexValue (hexCharacter d)) d) refl (x % 16) (omega arith))
+-- digits in any base: how many they are, the last of those left to write, and none
+digits-length : (base n x : ℕ) → length (digitsIn base n x) ≡ n
+unfolding digitsIn
+digits-length base zero x = refl
+digits-length base (suc n) x = simp (length-append, digits-length base n (x / base)) (omega arith)
 
-values-more : (k x : ℕ) → values (hexText (suc k) x) ≡ values (hexText k (x / 16)) ++ (x % 16 ∷ [])
-values-more k x = simp (hex-more, map-append, value-back)
-
--- the last digit of those left to write, and none
-pub digit-next : (l whole : List ℕ) (at i k left : ℕ) → i ≡ suc k → sets l at (values (hexText i left)) ≡ whole
-    → sets (set l (at + k) (left % 16)) at (values (hexText k (left / 16))) ≡ whole
-digit-next l whole at i k left e inv =
-    let rest = values (hexText k (left / 16)) in
-    let place : at + k ≡ at + length rest = simp (length-map, hex-length) in
+pub digit-next : (base : ℕ) (l whole : List ℕ) (at i k left : ℕ) → i ≡ suc k → sets l at (digitsIn base i left) ≡ whole
+    → sets (set l (at + k) (left % base)) at (digitsIn base k (left / base)) ≡ whole
+unfolding digitsIn
+digit-next base l whole at i k left e inv =
+    let rest = digitsIn base k (left / base) in
+    let place : at + k ≡ at + length rest = simp digits-length in
     rw place
-    (sym (sets-last l at rest (left % 16)) ∙ ap (sets l at) (sym (values-more k left))
-    ∙ ap (λ (n : ℕ). sets l at (values (hexText n left))) (sym e) ∙ inv)
+    (sym (sets-last l at rest (left % base)) ∙ ap (λ (n : ℕ). sets l at (digitsIn base n left)) (sym e) ∙ inv)
 
-pub digits-end : (l whole : List ℕ) (at i left : ℕ) → i ≤ 0 → sets l at (values (hexText i left)) ≡ whole → l ≡ whole
-digits-end l whole at i left h inv =
+pub digits-end : (base : ℕ) (l whole : List ℕ) (at i left : ℕ) → i ≤ 0 → sets l at (digitsIn base i left) ≡ whole → l ≡ whole
+unfolding digitsIn
+digits-end base l whole at i left h inv =
     let e : i ≡ 0 = omega arith in
-    ap (λ (xs : List ℕ). sets l at (values xs)) (sym (hex-none left))
-    ∙ ap (λ (n : ℕ). sets l at (values (hexText n left))) (sym e) ∙ inv
+    ap (λ (n : ℕ). sets l at (digitsIn base n left)) (sym e) ∙ inv
+
+-- the values of the next byte's digits, and none
+pub value-next : (l whole bs : List ℕ) (i : ℕ) → i < length bs → sets l (byteDigits * i) (byteValues (drop i bs)) ≡ whole
+    → sets (set (set l (byteDigits * i) (getD bs i 0 / 16)) (byteDigits * i + 1) (getD bs i 0 % 16)) (byteDigits * (i + 1))
+    (byteValues (drop (i + 1) bs)) ≡ whole
+unfolding byteValues
+value-next l whole bs i h inv =
+    let next : byteDigits * (i + 1) ≡ suc (suc (byteDigits * i)) = omega arith in
+    rw (next, add-one i, add-one (byteDigits * i))
+    (ap (λ (xs : List ℕ). sets l (byteDigits * i) (byteValues xs)) (sym (drop-cons bs i 0 h)) ∙ inv)
+
+pub values-end : (l whole bs : List ℕ) (i : ℕ) → length bs ≤ i → sets l (byteDigits * i) (byteValues (drop i bs)) ≡ whole → l ≡ whole
+unfolding byteValues
+values-end l whole bs i h inv =
+    ap (λ (xs : List ℕ). sets l (byteDigits * i) (byteValues xs)) (sym (drop-of-length-le bs {i = i} h)) ∙ inv
 
 -- the next of the values left to spell, and none
 pub spell-next : (l whole : List ℕ) (i y : ℕ) → i < length l → take i l ++ spelled (drop i l) ≡ whole
@@ -77,51 +89,71 @@ pub spell-end : (l whole : List ℕ) (i : ℕ) → length l ≤ i → take i l +
 spell-end l whole i h inv =
     sym (rw (take-all i l h, drop-of-length-le l {i = i} h) (append-nil l)) ∙ inv
 
--- values of a figure, and of figures, are spelled as the text
-pub spelled-back : (n x : ℕ) → spelled (values (hexText n x)) ≡ hexText n x
-spelled-back zero x = simp hex-none
-spelled-back (suc n) x = simp (hex-more, map-append, spelled-back n (x / 16), value-back, mod-mod)
+-- the values of a figure's digits are spelled as its text, whether they were written by themselves or from its bytes
+pub spelled-digits : (n x : ℕ) → spelled (digitsIn 16 n x) ≡ hexText n x
+unfolding digitsIn
+spelled-digits zero x = simp hex-none
+spelled-digits (suc n) x = simp (hex-more, map-append, spelled-digits n (x / 16), mod-mod)
 
-figures-spelled : (xs : List ℕ) → spelled (values (figuresText xs)) ≡ figuresText xs
-unfolding figuresText
+values-append : (xs ys : List ℕ) → byteValues (xs ++ ys) ≡ byteValues xs ++ byteValues ys
+unfolding byteValues
+values-append [] ys = refl
+values-append (x ∷ xs) ys = simp (values-append xs ys)
+
+spelled-bytes : (n x : ℕ) → spelled (byteValues (digitsIn 256 n x)) ≡ hexText (n * byteDigits) x
+unfolding digitsIn byteValues
+spelled-bytes zero x = simp (zero-mul, hex-none)
+spelled-bytes (suc n) x =
+    let high : x % 256 / 16 % 16 ≡ x / 16 % 16 = omega arith in
+    let low : x % 256 % 16 % 16 ≡ x % 16 = omega arith in
+    let rest : x / 256 ≡ x / 16 / 16 = omega arith in
+    let more : suc n * byteDigits ≡ suc (suc (n * byteDigits)) = omega arith in
+    simp (values-append, map-append, spelled-bytes n (x / 16 / 16), more, hex-more, append-assoc, high, low, rest)
+
+figures-spelled : (xs : List ℕ) → spelled (byteValues (figuresBytes xs)) ≡ figuresText xs
+unfolding figuresText figuresBytes byteValues
 figures-spelled [] = refl
-figures-spelled (x ∷ xs) = simp (map-append, spelled-back, figures-spelled xs)
+figures-spelled (x ∷ xs) = simp (values-append, map-append, spelled-bytes figureBytes x, figures-spelled xs)
 
--- a part that holds the values of a text is spelled as the text
-pub part-spelled : (l l₀ text part : List ℕ) (at k : ℕ) → length text ≡ k → at + k ≤ length l₀ → spelled (values text) ≡ text
-    → l ≡ sets l₀ at (values text) → part ≡ spelled (take k (drop at l))
+-- a part that holds the values of a text's digits is spelled as the text
+pub part-spelled : (l l₀ values text part : List ℕ) (at k : ℕ) → length text ≡ k → at + k ≤ length l₀ → spelled values ≡ text
+    → l ≡ sets l₀ at values → part ≡ spelled (take k (drop at l))
     → take at l ++ (part ++ drop k (drop at l)) ≡ sets l₀ at text
-part-spelled l l₀ text part at k size fits back written made =
+part-spelled l l₀ values text part at k size fits back written made =
     let p = take at l₀ in
     let r = drop (at + k) l₀ in
-    let v = values text in
-    let same : length v ≡ k = simp length-map size in
+    let same : length values ≡ k = simp length-map at (ap length back) ∙ size in
     let first : length p ≡ at = length-take-le at l₀ (omega arith) in
-    let whole : l ≡ p ++ (v ++ r) = written ∙ simp (sets-eq v l₀ at (omega arith), same, append-assoc) in
-    rw (made, whole, take-at p (v ++ r) at first, drop-at p (v ++ r) at first, take-at v r k same, drop-at v r k same, back)
+    let whole : l ≡ p ++ (values ++ r) = written ∙ simp (sets-eq values l₀ at (omega arith), same, append-assoc) in
+    rw (made, whole, take-at p (values ++ r) at first, drop-at p (values ++ r) at first, take-at values r k same, drop-at values r k same, back)
     (sym (simp (sets-eq text l₀ at (omega arith), size, append-assoc)))
 
--- figures whose values were written one after the other
-figures-written : (l l₁ l₂ xs ys : List ℕ) (at at₁ : ℕ) → at₁ ≡ at + length xs * figureWidth
-    → l₁ ≡ sets l at (values (figuresText xs)) → l₂ ≡ sets l₁ at₁ (values (figuresText ys))
-    → l₂ ≡ sets l at (values (figuresText (xs ++ ys)))
+-- the bytes of figures: how many, of two lists of figures, and written one after the other
+bytes-length : (xs : List ℕ) → length (figuresBytes xs) ≡ length xs * figureBytes
+unfolding figuresBytes
+bytes-length [] = omega arith
+bytes-length (x ∷ xs) = simp (length-append, digits-length, bytes-length xs) (omega arith)
+
+bytes-append : (xs ys : List ℕ) → figuresBytes (xs ++ ys) ≡ figuresBytes xs ++ figuresBytes ys
+unfolding figuresBytes
+bytes-append [] ys = refl
+bytes-append (x ∷ xs) ys = simp (append-assoc, bytes-append xs ys)
+
+figures-written : (l l₁ l₂ xs ys : List ℕ) (at at₁ : ℕ) → at₁ ≡ at + length xs * figureBytes
+    → l₁ ≡ sets l at (figuresBytes xs) → l₂ ≡ sets l₁ at₁ (figuresBytes ys) → l₂ ≡ sets l at (figuresBytes (xs ++ ys))
 figures-written l l₁ l₂ xs ys at at₁ e a b =
-    let place : at₁ ≡ at + length (values (figuresText xs)) = simp (length-map, figures-length) e in
-    b
-    ∙ rw (place, a, figures-append xs ys, map-append)
-    (sym (sets-append l at (values (figuresText xs)) (values (figuresText ys))))
+    let place : at₁ ≡ at + length (figuresBytes xs) = simp bytes-length e in
+    b ∙ rw (place, a, bytes-append xs ys) (sym (sets-append l at (figuresBytes xs) (figuresBytes ys)))
 
 -- a figure written over as many characters as it has digits
 pub figure-written : (l t : List ℕ) (x : ℕ) → length l ≡ figureWidth → t ≡ sets l 0 (hexText figureWidth x) → t ≡ hexText figureWidth x
 figure-written l t x full written =
-    let size = hex-length figureWidth x in
-    let over : length l ≤ 0 + length (hexText figureWidth x) = omega arith in
-    written ∙ sets-eq (hexText figureWidth x) l 0 (omega arith) ∙ rw (drop-of-length-le l over, append-nil)
+    written ∙ sets-all l (hexText figureWidth x) (omega (arith, hex-length figureWidth x))
 
-pub three-written : (l l₁ l₂ l₃ : List ℕ) (at at₁ at₂ x y z : ℕ) → at₁ ≡ at + figureWidth → at₂ ≡ at₁ + figureWidth
-    → l₁ ≡ sets l at (values (hexText figureWidth x)) → l₂ ≡ sets l₁ at₁ (values (hexText figureWidth y))
-    → l₃ ≡ sets l₂ at₂ (values (hexText figureWidth z)) → l₃ ≡ sets l at (values (figuresText (x ∷ y ∷ z ∷ [])))
-unfolding figuresText
+pub three-written : (l l₁ l₂ l₃ : List ℕ) (at at₁ at₂ x y z : ℕ) → at₁ ≡ at + figureBytes → at₂ ≡ at₁ + figureBytes
+    → l₁ ≡ sets l at (digitsIn 256 figureBytes x) → l₂ ≡ sets l₁ at₁ (digitsIn 256 figureBytes y)
+    → l₃ ≡ sets l₂ at₂ (digitsIn 256 figureBytes z) → l₃ ≡ sets l at (figuresBytes (x ∷ y ∷ z ∷ []))
+unfolding figuresBytes
 three-written l l₁ l₂ l₃ at at₁ at₂ x y z e e₂ a b c =
     figures-written l l₂ l₃ (x ∷ y ∷ []) (z ∷ []) at at₂ (omega arith)
     (figures-written l l₁ l₂ (x ∷ []) (y ∷ []) at at₁ (omega arith) (simp append-nil a) (simp append-nil b))
@@ -129,40 +161,41 @@ three-written l l₁ l₂ l₃ at at₁ at₂ x y z e e₂ a b c =
 
 -- the next of the shares left to write, and none
 pub share-next : (l after whole : List ℕ) (xs : List Share) (i : ℕ) → i < length xs
-    → sets l (headerLength + shareLength * i) (values (figuresText (sharesFigures (drop i xs)))) ≡ whole
-    → after ≡ sets l (headerLength + shareLength * i) (values (figuresText (shareFigures (getD xs i noShare))))
-    → sets after (headerLength + shareLength * (i + 1)) (values (figuresText (sharesFigures (drop (i + 1) xs)))) ≡ whole
+    → sets l (headerBytes + shareBytes * i) (figuresBytes (sharesFigures (drop i xs))) ≡ whole
+    → after ≡ sets l (headerBytes + shareBytes * i) (figuresBytes (shareFigures (getD xs i noShare)))
+    → sets after (headerBytes + shareBytes * (i + 1)) (figuresBytes (sharesFigures (drop (i + 1) xs))) ≡ whole
 share-next l after whole xs i h inv stored =
-    let at = headerLength + shareLength * i in
+    let at = headerBytes + shareBytes * i in
     rw (add-one i)
     (figures-written l after _ (shareFigures (getD xs i noShare)) (sharesFigures (drop (suc i) xs)) at _ (omega arith) stored refl
-    ∙ ap (λ (ys : List Share). sets l at (values (figuresText (sharesFigures ys)))) (sym (drop-cons xs i noShare h))
+    ∙ ap (λ (ys : List Share). sets l at (figuresBytes (sharesFigures ys))) (sym (drop-cons xs i noShare h))
     ∙ inv)
 
 pub shares-end : (l whole : List ℕ) (xs : List Share) (i : ℕ) → length xs ≤ i
-    → sets l (headerLength + shareLength * i) (values (figuresText (sharesFigures (drop i xs)))) ≡ whole → l ≡ whole
-unfolding figuresText
+    → sets l (headerBytes + shareBytes * i) (figuresBytes (sharesFigures (drop i xs))) ≡ whole → l ≡ whole
+unfolding figuresBytes
 shares-end l whole xs i h inv =
-    ap (λ (ys : List Share). sets l (headerLength + shareLength * i) (values (figuresText (sharesFigures ys))))
+    ap (λ (ys : List Share). sets l (headerBytes + shareBytes * i) (figuresBytes (sharesFigures ys)))
     (sym (drop-of-length-le xs {i = i} h)) ∙ inv
 
--- the values of header and shares are written and spelled, and the newline comes behind them
-pub line-written : (f : Figures) (line l l₀ part : List ℕ) → length (f .shares) ≡ shareCount → length l₀ ≡ textLength + 1
-    → l ≡ sets l₀ 0 (values (figuresText (headerFigures f)))
-    → line ≡ sets l headerLength (values (figuresText (sharesFigures (f .shares)))) → part ≡ spelled (take textLength line)
-    → set (part ++ drop textLength line) textLength 10 ≡ lineText f
+-- the bytes of header and shares are written, the values of their digits are spelled, and the newline comes behind them
+pub line-written : (f : Figures) (bytes b b₀ line l₀ part : List ℕ) → length (f .shares) ≡ shareCount
+    → byteDigits * length b₀ ≡ textLength → length l₀ ≡ textLength + 1 → b ≡ sets b₀ 0 (figuresBytes (headerFigures f))
+    → bytes ≡ sets b headerBytes (figuresBytes (sharesFigures (f .shares))) → line ≡ sets l₀ 0 (byteValues bytes)
+    → part ≡ spelled (take textLength line) → set (part ++ drop textLength line) textLength 10 ≡ lineText f
 unfolding lineText
-line-written f line l l₀ part four size header shares made =
+line-written f bytes b b₀ line l₀ part four room size header shares valued made =
     let text = figuresText (lineFigures f) in
     let before : length text ≡ textLength = before-length f four in
     let all : length (text ++ (10 ∷ [])) ≡ textLength + 1 = text-length f four in
+    let whole : bytes ≡ figuresBytes (lineFigures f) =
+    figures-written b₀ b bytes (headerFigures f) (sharesFigures (f .shares)) 0 headerBytes (omega arith) header shares
+    ∙ sets-all b₀ (figuresBytes (lineFigures f)) (omega (arith, bytes-length (lineFigures f), figures-length (lineFigures f)))
+    in
     let written : part ++ drop textLength line ≡ sets l₀ 0 text =
-    part-spelled line l₀ text part 0 textLength before (omega arith) (figures-spelled (lineFigures f))
-    (figures-written l₀ l line (headerFigures f) (sharesFigures (f .shares)) 0 headerLength (omega arith) header shares) made
+    part-spelled line l₀ (byteValues bytes) text part 0 textLength before (omega arith)
+    (ap (λ (xs : List ℕ). spelled (byteValues xs)) whole ∙ figures-spelled (lineFigures f)) valued made
     in
     let end : textLength ≡ 0 + length text = omega arith in
     ap (λ (m : List ℕ). set m textLength 10) written ∙ ap (λ (n : ℕ). set (sets l₀ 0 text) n 10) end
-    ∙ sym (sets-append l₀ 0 text (10 ∷ []))
-    ∙ sets-eq (text ++ (10 ∷ [])) l₀ 0 (omega arith)
-    ∙ ap (λ (r : List ℕ). (text ++ (10 ∷ [])) ++ r) (drop-of-length-le l₀ {i = 0 + length (text ++ (10 ∷ []))} (omega arith))
-    ∙ append-nil (text ++ (10 ∷ []))
+    ∙ sym (sets-append l₀ 0 text (10 ∷ [])) ∙ sets-all l₀ (text ++ (10 ∷ [])) (omega arith)

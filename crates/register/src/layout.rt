@@ -3,34 +3,44 @@ use split::answers::Quote;
 use split::answers::Share;
 ghost use mathlib.Core.Path.{_≡_};
 ghost use mathlib.Core.List.{map};
-ghost use Prim.Native.Nat.{ℕ, _+_, _%_, _≤_, _<_};
+ghost use Prim.Native.Nat.{ℕ, _+_, _*_, _%_, _≤_, _<_};
 ghost use lib.ListN.{length};
 ghost use lib.Seq.{sets};
-ghost use Rattle.split.specs.Frame.{hexValue, hexCharacter, hexText};
-ghost use Rattle.register.specs.Line.{figureWidth, headerLength, shareLength, shareCount, figuresOf, headerFigures, shareFigures, figuresText, lineText};
+ghost use Rattle.split.specs.Frame.{hexCharacter, hexText};
+ghost use Rattle.register.specs.Line.{figureWidth, shareCount, figuresOf, headerFigures, shareFigures, lineText};
 ghost use Rattle.register.specs.Layout.{lineLength};
+ghost use Rattle.register.specs.Scan.{byteDigits, figureBytes, headerBytes, shareBytes, digitsIn, figuresBytes, byteValues};
 
-// The digits of a figure.
+// The digits of a figure, and where the member's begin in a line.
 pub const FIGURE_WIDTH: usize = 8;
 
-// Where the header's figures begin behind the number, and how long it is.
 pub const MEMBER_AT: usize = FIGURE_WIDTH;
 
-const TOTAL_AT: usize = MEMBER_AT + FIGURE_WIDTH;
+// The digits of a byte, and the bytes of a figure.
+const BYTE_DIGITS: usize = 2;
 
-const HEADER_LENGTH: usize = TOTAL_AT + FIGURE_WIDTH;
+const FIGURE_BYTES: usize = FIGURE_WIDTH / BYTE_DIGITS;
 
-// Where a share's figures begin behind its lump, and how long it is.
-const REMAINING_AT: usize = FIGURE_WIDTH;
+// Where the bytes of the header's figures begin behind the number's, and how many it has.
+const MEMBER_BYTES_AT: usize = FIGURE_BYTES;
 
-const SECOND_AT: usize = REMAINING_AT + FIGURE_WIDTH;
+const TOTAL_BYTES_AT: usize = MEMBER_BYTES_AT + FIGURE_BYTES;
 
-const SHARE_LENGTH: usize = SECOND_AT + FIGURE_WIDTH;
+const HEADER_BYTES: usize = TOTAL_BYTES_AT + FIGURE_BYTES;
 
-// The shares of a line, its characters before the newline, and with it.
+// Where the bytes of a share's figures begin behind its lump's, and how many it has.
+const REMAINING_BYTES_AT: usize = FIGURE_BYTES;
+
+const SECOND_BYTES_AT: usize = REMAINING_BYTES_AT + FIGURE_BYTES;
+
+const SHARE_BYTES: usize = SECOND_BYTES_AT + FIGURE_BYTES;
+
+// The shares of a line, the bytes of its figures, its characters before the newline, and with it.
 const SHARES: usize = 4;
 
-pub const TEXT_LENGTH: usize = HEADER_LENGTH + SHARES * SHARE_LENGTH;
+const TEXT_BYTES: usize = HEADER_BYTES + SHARES * SHARE_BYTES;
+
+pub const TEXT_LENGTH: usize = BYTE_DIGITS * TEXT_BYTES;
 
 pub const LINE_LENGTH: usize = TEXT_LENGTH + 1;
 
@@ -45,11 +55,10 @@ fn hex_character(digit: u8) -> u8
     55 + digit
 }
 
-// Writes the values of a figure's digits from a place on. `spell` makes characters of them, for a whole line at once, since the
-// compiler then takes 16 digits together.
+// Writes the values of a figure's digits from a place on.
 fn write_digits(line: &mut [u8], at: usize, value: u32)
     requires { ⌜ at + figureWidth ≤ length (now line) ⌝ }
-    ensures { λ _. ⌜ now (line .exit) ≡ sets (now (line .entry)) at (map hexValue (hexText figureWidth value)) ⌝ }
+    ensures { λ _. ⌜ now (line .exit) ≡ sets (now (line .entry)) at (digitsIn 16 figureWidth value) ⌝ }
 {
     let mut left = value;
     let mut i = FIGURE_WIDTH;
@@ -60,7 +69,8 @@ fn write_digits(line: &mut [u8], at: usize, value: u32)
     }
 }
 
-// Makes characters of the values of digits. The remainder changes no digit, and nothing need be known of the bytes.
+// Makes characters of the values of digits, for a whole line at once, since the compiler then takes 16 together. The remainder
+// changes no digit, and nothing need be known of the bytes.
 fn spell(digits: &mut [u8])
     ensures { λ _. ⌜ now (digits .exit) ≡ map (λ (d : ℕ). hexCharacter (d % 16)) (now (digits .entry)) ⌝ }
 {
@@ -80,43 +90,73 @@ pub fn write_figure(line: &mut [u8], at: usize, value: u32)
     spell(&mut line[at..at + FIGURE_WIDTH]);
 }
 
-// Writes the values of the header's digits at a line's start.
-fn write_header(line: &mut [u8], number: u32, quote: Quote)
-    requires { ⌜ headerLength ≤ length (now line) ⌝ }
-    ensures { λ _. ⌜ now (line .exit) ≡ sets (now (line .entry)) 0 (map hexValue (figuresText (headerFigures (figuresOf number quote)))) ⌝ }
+// Writes the bytes of a figure from a place on, the highest first.
+fn write_bytes(bytes: &mut [u8], at: usize, value: u32)
+    requires { ⌜ at + figureBytes ≤ length (now bytes) ⌝ }
+    ensures { λ _. ⌜ now (bytes .exit) ≡ sets (now (bytes .entry)) at (digitsIn 256 figureBytes value) ⌝ }
 {
-    let total = quote.total;
-    write_digits(line, 0, number);
-    write_digits(line, MEMBER_AT, quote.member);
-    write_digits(line, TOTAL_AT, total.0);
+    let mut left = value;
+    let mut i = FIGURE_BYTES;
+    while 0 < i {
+        i -= 1;
+        bytes[at + i] = (left % 256) as u8;
+        left /= 256;
+    }
 }
 
-// Writes the values of a share's digits from a place on.
-fn write_share(line: &mut [u8], at: usize, share: Share)
-    requires { ⌜ at + shareLength ≤ length (now line) ⌝ }
-    ensures { λ _. ⌜ now (line .exit) ≡ sets (now (line .entry)) at (map hexValue (figuresText (shareFigures share))) ⌝ }
+// Writes the bytes of the header's figures at the start.
+fn write_header(bytes: &mut [u8], number: u32, quote: Quote)
+    requires { ⌜ headerBytes ≤ length (now bytes) ⌝ }
+    ensures { λ _. ⌜ now (bytes .exit) ≡ sets (now (bytes .entry)) 0 (figuresBytes (headerFigures (figuresOf number quote))) ⌝ }
+{
+    let total = quote.total;
+    write_bytes(bytes, 0, number);
+    write_bytes(bytes, MEMBER_BYTES_AT, quote.member);
+    write_bytes(bytes, TOTAL_BYTES_AT, total.0);
+}
+
+// Writes the bytes of a share's figures from a place on.
+fn write_share(bytes: &mut [u8], at: usize, share: Share)
+    requires { ⌜ at + shareBytes ≤ length (now bytes) ⌝ }
+    ensures { λ _. ⌜ now (bytes .exit) ≡ sets (now (bytes .entry)) at (figuresBytes (shareFigures share)) ⌝ }
 {
     let lump = share.lump;
     let remaining = share.remaining;
     let second = share.second;
-    write_digits(line, at, lump.0);
-    write_digits(line, at + REMAINING_AT, remaining.0);
-    write_digits(line, at + SECOND_AT, second.0);
+    write_bytes(bytes, at, lump.0);
+    write_bytes(bytes, at + REMAINING_BYTES_AT, remaining.0);
+    write_bytes(bytes, at + SECOND_BYTES_AT, second.0);
 }
 
-// Writes the line of a numbered quote over a whole line's bytes.
+// Writes the values of each byte's two digits, from a line's start on.
+fn write_values(line: &mut [u8], bytes: &[u8])
+    requires { ⌜ byteDigits * length (now bytes) ≤ length (now line) ⌝ }
+    ensures { λ _. ⌜ now (line .exit) ≡ sets (now (line .entry)) 0 (byteValues (now (bytes .entry))) ⌝ }
+{
+    let mut i = 0;
+    while i < bytes.len() {
+        line[BYTE_DIGITS * i] = bytes[i] / 16;
+        line[BYTE_DIGITS * i + 1] = bytes[i] % 16;
+        i += 1;
+    }
+}
+
+// Writes the line of a numbered quote over a whole line's bytes. Only the figures' bytes, half as many as the digits, are written
+// one by one; the compiler takes 16 together where values are made of the bytes, and characters of the values.
 pub fn write_line(line: &mut [u8], number: u32, quote: Quote)
     requires { ⌜ (length (now line) ≡ lineLength) × (length (quote .shares) ≡ shareCount) ⌝ }
     ensures { λ _. ⌜ now (line .exit) ≡ lineText (figuresOf number quote) ⌝ }
 {
-    write_header(line, number, quote);
+    let mut bytes = [0u8; TEXT_BYTES];
+    write_header(&mut bytes, number, quote);
     let shares = quote.shares;
     let mut i = 0;
     while i < SHARES {
         let share = shares[i];
-        write_share(line, HEADER_LENGTH + SHARE_LENGTH * i, share);
+        write_share(&mut bytes, HEADER_BYTES + SHARE_BYTES * i, share);
         i += 1;
     }
+    write_values(line, &bytes);
     spell(&mut line[0..TEXT_LENGTH]);
     line[TEXT_LENGTH] = b'\n';
 }

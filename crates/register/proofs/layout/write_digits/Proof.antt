@@ -1,18 +1,18 @@
--- `write_digits` writes the values of the digits of `hexText`, the last first: those left to write give what all give from the start.
+-- `write_digits` writes the values of a figure's digits, the last first: those left to write give what all give from the start.
 use Prim.Native.Nat.{_≤_}
 use mathlib.Core.Path.{_≡_, refl}
 use native.Mathlib.Omega.{arith}
 use lib.ListN.{length, length-set}
 use lib.Seq.{sets}
 use borrow.Author.Needs.{needs}
-use Rattle.split.specs.Frame.{hexText}
-use Rattle.register.proofs.LineLoop.{values, digit-next, digits-end}
+use Rattle.register.specs.Scan.{digitsIn}
+use Rattle.register.proofs.LineLoop.{digit-next, digits-end}
 use Rattle.register.proofs.layout.write_digits.Statement.{statement}
 use Rattle.register.proofs.layout.write_digits.Tie as tie
 
 abbrev Inv-loop : tie.InvT-loop
 Inv-loop line₀ at value left₀ i₀ line left i =
-    (i ≤ 8) × (length line ≡ length line₀) × (sets line at (values (hexText i left)) ≡ sets line₀ at (values (hexText 8 value)))
+    (i ≤ 8) × (length line ≡ length line₀) × (sets line at (digitsIn 16 i left) ≡ sets line₀ at (digitsIn 16 8 value))
 
 abbrev μ-loop : tie.MeasureT-loop
 μ-loop line₀ at value left₀ i₀ line left i = i
@@ -25,11 +25,11 @@ loop-again c =
     let l = c .before .loop in (
       omega arith,
       simp length-set (l .inv .1),
-      digit-next (l .line) _ _ (l .i) _ (l .left) (omega arith) (l .inv .2),
+      digit-next 16 (l .line) _ _ (l .i) _ (l .left) (omega arith) (l .inv .2),
     )
 
 returns : tie.Need-returns Inv-loop μ-loop
-returns c = digits-end _ _ _ _ _ (c .loop-test .left) (c .before .loop .inv .2)
+returns c = digits-end 16 _ _ _ _ _ (c .loop-test .left) (c .before .loop .inv .2)
 
 pub write-digits-spec : {M : Type 1} → statement M
 write-digits-spec =

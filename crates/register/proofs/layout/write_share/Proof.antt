@@ -1,4 +1,4 @@
--- `write_share` writes the values of a share's figures one after the other.
+-- `write_share` writes the bytes of a share's figures one after the other.
 use mathlib.Core.Path.{refl}
 use native.Mathlib.Omega.{arith}
 use borrow.Author.Needs.{needs}
@@ -11,8 +11,8 @@ returns c =
     let third = c .before .before in
     let second = third .before .before .before .before in
     let first = second .before .before .before .before in
-    three-written _ _ _ _ _ _ _ _ _ _ refl (omega arith) (first .write-digits .ensures) (second .write-digits2 .ensures)
-    (third .write-digits3 .ensures)
+    three-written _ _ _ _ _ _ _ _ _ _ refl (omega arith) (first .write-bytes .ensures) (second .write-bytes2 .ensures)
+    (third .write-bytes3 .ensures)
 
 pub write-share-spec : {M : Type 1} → statement M
 write-share-spec =
