@@ -1,6 +1,6 @@
 -- Laws of tests: both parts of "and" and of "or", a test of some element of a list by its places, by the next element, by
--- one more at the end or over two lists, a range by its bounds, and what no condition says. Each by cases or by induction on
--- the list. Assumes nothing.
+-- one more at the end, over two lists or by two parts that overlap, a range by its bounds, and what no condition says. Each by
+-- cases or by induction on the list. Assumes nothing.
 use Prim.Native.Nat.{ℕ, zero, suc, _+_, _-_, _≤_, _<_}
 use mathlib.Core.Path.{_≡_, refl, sym, _∙_, ap}
 use mathlib.Core.Bool.{Bool, true, false, cond, _&&_, _||_, or-true, or-false, or-assoc, true≢false, false≢true}
@@ -9,7 +9,7 @@ use native.Mathlib.Numerals.{add-one}
 use native.Mathlib.Omega.{arith}
 use lib.Dec.{leb, eqb}
 use lib.ListN.{length, getD, take, drop, take-append-drop, drop-of-length-le}
-use lib.Seq.{drop-cons, drop-drop}
+use lib.Seq.{length-take-le, drop-cons, take-take, drop-drop, take-add, drop-at}
 use borrow.Author.Tests.{leb-true, lt-leb, eqb-true, eqb-false, ne-eqb}
 use Rattle.calendar.specs.Tests.{any, within, lowest}
 
@@ -89,6 +89,17 @@ flag-again f l i j flag h rest = go (any f (take (i - j) (drop j l))) refl
     go : (b : Bool) → any f (take (i - j) (drop j l)) ≡ b → any f l ≡ (flag || any f (drop j l))
     go true e = any-parts f l j ∙ simp (later, e, or-true)
     go false e = rest ∙ simp (later, e)
+
+-- of a list's first elements, by two parts of them that may overlap
+pub any-spans : {A : Type 0} (f : A → Bool) (l : List A) (i j k : ℕ) → j ≤ i → i ≤ j + k → j ≤ length l
+    → any f (take (j + k) l) ≡ (any f (take i l) || any f (take k (drop j l)))
+any-spans f l i j k over inside long =
+    let last : drop j (take (j + k) l) ≡ take k (drop j l) =
+    rw (take-add j k l) (drop-at (take j l) (take k (drop j l)) j (length-take-le j l long))
+    in
+    rw last at
+    (flag-again f (take (j + k) l) i j (any f (take i l)) over
+    (rw (take-take i (j + k) l inside) at (any-parts f (take (j + k) l) i)))
 
 -- a test that holds of no element fails of each
 pub any-none : {A : Type 0} (f : A → Bool) (l : List A) (d : A) → any f l ≡ false → (j : ℕ) → j < length l

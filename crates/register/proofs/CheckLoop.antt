@@ -1,7 +1,8 @@
--- The check by loops, for any layout: a line is a part of the register and is read there; the lines from an offset on answer for
--- all; and a turn stops at a wrong number or a bad character, or goes on behind a line without a fault. Assumes nothing.
+-- The check by loops, for any layout: characters may be judged in parts that overlap; a line is a part of the register and is
+-- read there; the lines from an offset on answer for all; and a turn stops at a wrong number or a bad character, or goes on behind
+-- a line without a fault. Assumes nothing.
 use Prim.Native.Nat.{ℕ, zero, suc, _+_, _-_, _*_, _/_, _%_, _^_, _≤_, _<_}
-use mathlib.Core.Bool.{Bool, true, false, cond, not, _&&_}
+use mathlib.Core.Bool.{Bool, true, false, cond, not, _&&_, _||_}
 use mathlib.Core.List.{List}
 use mathlib.Core.Path.{_≡_, refl, sym, _∙_, ap}
 use native.Mathlib.Decide.{decLt}
@@ -13,7 +14,7 @@ use lib.ListN.{length, getD, take, drop, length-take, length-drop}
 use lib.Seq.{getD-take, getD-drop, drop-drop}
 use borrow.Author.Count.{below-more}
 use borrow.Author.Tests.{lt-ltb, le-ltb, eq-eqb, not-true}
-use Rattle.calendar.proofs.TestsLaws.{and-left, and-right}
+use Rattle.calendar.proofs.TestsLaws.{and-left, and-right, any-spans}
 use Rattle.split.specs.Frame.{hexValue, noDigit, badCharacter, digitAt, numberAt}
 use Rattle.split.proofs.FrameLaws.{digit-known}
 use Rattle.split.proofs.HexLaws.{number-part}
@@ -29,6 +30,12 @@ use Rattle.register.proofs.CheckLaws.{Good, fault-number, fault-charact
 -- a character that may not stand at a place of a line
 abbrev pub badCharacterAt : Layout → ℕ → ℕ → Bool
 badCharacterAt y place x = cond (ltb place (y .text)) (noDigit x) (not (eqb x 10))
+
+-- characters judged in two parts that may overlap
+pub spans-judged : (l : List ℕ) (i j k : ℕ) (first last : Bool) → j ≤ i → i ≤ j + k → j ≤ length l → first ≡ badCharacter (take i l)
+    → last ≡ badCharacter (take k (drop j l)) → (first || last) ≡ badCharacter (take (j + k) l)
+unfolding badCharacter
+spans-judged l i j k first last over inside long a b = rw (a, b) (sym (any-spans noDigit l i j k over inside long))
 
 -- the number's turn at a place: past it the number is right
 pub right-next : (place : ℕ) (wrong : Bool) → (eqb place figureWidth && wrong) ≡ false → (figureWidth < place → wrong ≡ false)

@@ -14,6 +14,13 @@ ghost use Rattle.register.specs.Layout.{lent, lineLength, usedLines};
 ghost use Rattle.register.specs.Check.{following, wrongNumber, badUsed, checkLines, checkOf};
 ghost use Rattle.register.specs.Scan.{ScannedAs, DigitsAt};
 
+// Characters that the compiler judges together, how many of a line's digits fill whole spans, and where its last span begins.
+const SPAN: usize = 16;
+
+const WHOLE_SPANS: usize = TEXT_LENGTH / SPAN * SPAN;
+
+const LAST_SPAN: usize = TEXT_LENGTH - SPAN;
+
 // What going along a register finds: the check's refusal and offset, and where there is none the number that a next line
 // must have, 0 where there is no line.
 pub struct Scanned {
@@ -42,12 +49,15 @@ fn is_bad(character: u8, place: usize) -> bool
     character != b'\n'
 }
 
-// Whether the characters of a line are its digits and its newline. It looks at them all, with no branch for each.
+// Whether the characters of a line are its digits and its newline. It looks at them all, with no branch for each, and in whole
+// spans: the last one overlaps those before it, so that no digits are left to be judged one by one.
 fn has_layout(line: &[u8]) -> bool
     requires { ⌜ length (now line) ≡ lineLength ⌝ }
     ensures { λ r. ⌜ r ≡ (not (badCharacter (take textLength (now (line .entry)))) && eqb (getD (now (line .entry)) textLength 0) 10) ⌝ }
 {
-    !split::has_bad_character(&line[0..TEXT_LENGTH]) & (line[TEXT_LENGTH] == b'\n')
+    let bad_whole = split::has_bad_character(&line[0..WHOLE_SPANS]);
+    let bad_last = split::has_bad_character(&line[LAST_SPAN..TEXT_LENGTH]);
+    !(bad_whole | bad_last) & (line[TEXT_LENGTH] == b'\n')
 }
 
 // The value of a character that is a digit, and some number below 16 of any other.
