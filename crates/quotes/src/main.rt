@@ -8,10 +8,14 @@ ghost use Prim.Native.Nat.{_+_, _≤_};
 ghost use mathlib.Core.Path.{_≡_};
 ghost use lib.ListN.{length};
 ghost use Rattle.split.specs.Case.{longestLine};
-ghost use Rattle.quotes.specs.Bounds.{InBounds};
+ghost use Rattle.quotes.specs.Bounds.{inputLength, InBounds};
 
 // One character more than the longest case line has: a longer line is refused by its characters and its length alone.
 const KEPT: usize = LONGEST + 1;
+
+// The bytes of a block of input, and the refusals that it has room for, one a line. The register is checked once a block, so a
+// larger block spends less on checks.
+const INPUT_LENGTH: usize = 262144;
 
 // Where a run stands: the register's used length, how many characters of a line without its end are kept at the input's
 // start, how many bytes of output wait to be written, whether a write failed, and whether the input has ended.
@@ -190,7 +194,7 @@ fn read_block(
     output: &mut [u8],
     progress: Progress,
 ) -> Progress
-    requires { ⌜ (length (now input) ≡ 65536) × InBounds progress (now output) ⌝ }
+    requires { ⌜ (length (now input) ≡ inputLength) × InBounds progress (now output) ⌝ }
     ensures { λ r. ⌜ InBounds r (now (output .exit)) ⌝ }
 {
     let mut state = write_waiting(output, progress);
@@ -216,7 +220,7 @@ fn take_all(
     output: &mut [u8],
     progress: Progress,
 ) -> Progress
-    requires { ⌜ (length (now input) ≡ 65536) × InBounds progress (now output) ⌝ }
+    requires { ⌜ (length (now input) ≡ inputLength) × InBounds progress (now output) ⌝ }
     ensures { λ r. ⌜ InBounds r (now (output .exit)) ⌝ }
 {
     let mut state = progress;
@@ -239,7 +243,7 @@ fn finish(
     output: &mut [u8],
     progress: Progress,
 )
-    requires { ⌜ (length (now input) ≡ 65536) × InBounds progress (now output) ⌝ }
+    requires { ⌜ (length (now input) ≡ inputLength) × InBounds progress (now output) ⌝ }
 {
     let kept = progress.kept;
     let state = file_text(&input[..kept], register, refusals, output, progress);
@@ -249,9 +253,9 @@ fn finish(
 }
 
 fn main() {
-    let mut input = io::large_buffer();
+    let mut input = [0u8; INPUT_LENGTH];
     let mut register = io::large_buffer();
-    let mut refusals = io::large_buffer();
+    let mut refusals = [0u8; INPUT_LENGTH];
     let mut output = io::large_buffer();
     let start = Progress {
         used: 0,
