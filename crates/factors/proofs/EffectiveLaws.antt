@@ -1,11 +1,13 @@
 -- Laws of the effective factor for the crates above: for terms within document 01's lists it lies between 5 and 80, whatever
--- the kind, and so do the multiples of its top and bottom that the code works with. Assumes nothing.
-use mathlib.Core.Bool.{Bool, true, false, cond}
-use Prim.Native.Nat.{ℕ, _-_, _*_, _≤_, _<_}
-use native.Mathlib.Nat.{mul-le-mul-left}
+-- the kind, and so does the multiple of its top and bottom that the code works out. Assumes nothing.
+use mathlib.Core.Path.{_≡_, refl}
+use mathlib.Core.Bool.{Bool, true, false, cond, _||_}
+use Prim.Native.Nat.{ℕ, _+_, _-_, _*_, _≤_, _<_}
+use native.Mathlib.Nat.{zero-mul, mul-le-mul-left}
 use native.Mathlib.Omega.{arith}
 use lib.Dec.{eqb}
 use lib.ListN.{List·getD-eq-default}
+use borrow.Author.Tests.{eqb-true}
 use Rattle.factors.specs.declared.effective.Factor.{Factor}
 use Rattle.factors.specs.declared.effective.FactorTerms.{FactorTerms}
 use Rattle.factors.specs.Effective.{lumpTop, lumpBottom, effectiveFactor, FactorRange, multiplier, multiple}
@@ -41,12 +43,20 @@ pub active-range : (t : FactorTerms) → FactorRange (effectiveFactor 3 t)
 unfolding effectiveFactor
 active-range t = omega arith
 
--- the multiple of the code
+-- the multiple of the code, by whether the kind is 1 and whether it is 2
+abbrev multiplierBy : Bool → Bool → ℕ
+multiplierBy a b = cond a 100000 (cond b 1 10000000)
+
+abbrev factorBy : Bool → Bool → FactorTerms → Factor
+factorBy a b t =
+    cond a (record { top = t .f1; bottom = 100 })
+    (cond b (record { top = 10 * lumpTop t; bottom = lumpBottom t }) (record { top = 12; bottom = 1 }))
+
 pub multiplier-positive : (kind : ℕ) → 0 < multiplier kind
 unfolding multiplier
 multiplier-positive kind = go (eqb kind 1) (eqb kind 2)
   where
-    go : (a b : Bool) → 0 < cond a 100000 (cond b 1 10000000)
+    go : (a b : Bool) → 0 < multiplierBy a b
     go true b = omega arith
     go false true = omega arith
     go false false = omega arith
@@ -56,9 +66,28 @@ pub multiple-range : (kind : ℕ) (t : FactorTerms) → FactorRange (effectiveFa
 unfolding effectiveFactor multiplier multiple
 multiple-range kind t = go (eqb kind 1) (eqb kind 2)
   where
-    go : (a b : Bool)
-        → let e : Factor = cond a (record { top = t .f1; bottom = 100 }) (cond b (record { top = 10 * lumpTop t; bottom = lumpBottom t }) (record { top = 12; bottom = 1 })) in
-        FactorRange e → FactorRange (multiple (cond a 100000 (cond b 1 10000000)) e)
+    go : (a b : Bool) → FactorRange (factorBy a b t) → FactorRange (multiple (multiplierBy a b) (factorBy a b t))
     go true b r = omega arith
     go false true r = omega arith
     go false false r = omega arith
+
+made : {a b c d : ℕ} → a ≡ c → b ≡ d → _≡_ {A = Factor} (record { top = a; bottom = b }) (record { top = c; bottom = d })
+made x y = λ i. record { top = x i; bottom = y i }
+
+-- what the code makes of terms that have 1,200 for F1 where the kind is neither 1 nor 2
+pub multiple-made : (kind f1 top bottom : ℕ) (t : FactorTerms) → f1 ≡ cond (eqb kind 1 || eqb kind 2) (t .f1) 1200
+    → let s : FactorTerms = record { f1 = f1; f2 = t .f2; f3 = t .f3; increase = t .increase } in
+    top ≡ lumpTop s → bottom ≡ lumpBottom s → (eqb kind 2 ≡ false → t .increase ≡ 0)
+    → _≡_ {A = Factor} (record { top = 10 * top; bottom = bottom }) (multiple (multiplier kind) (effectiveFactor kind t))
+unfolding lumpTop lumpBottom effectiveFactor multiplier multiple
+multiple-made kind f1 top bottom t chosen x y none = go (eqb kind 1) (eqb kind 2) refl refl chosen
+  where
+    no-increase : eqb kind 2 ≡ false → (t .increase * t .f2 ≡ 0) × (t .increase * t .f3 ≡ 0)
+    no-increase e = rw (none e) (zero-mul (t .f2), zero-mul (t .f3))
+
+    go : (a b : Bool) → eqb kind 1 ≡ a → eqb kind 2 ≡ b → f1 ≡ cond (a || b) (t .f1) 1200
+        → _≡_ {A = Factor} (record { top = 10 * top; bottom = bottom }) (multiple (multiplierBy a b) (factorBy a b t))
+    go true true p q f = absurd (omega (arith, eqb-true kind 1 p, eqb-true kind 2 q))
+    go true false p q f = made (omega (arith, no-increase q)) (omega (arith, no-increase q))
+    go false true p q f = made (omega arith) (omega arith)
+    go false false p q f = made (omega (arith, no-increase q)) (omega (arith, no-increase q))

@@ -1,7 +1,9 @@
 // The effective factor E: the lump sum for one penny a year of pension, as a top over a bottom.
 ghost use mathlib.Core.Path.{_≡_};
+ghost use mathlib.Core.Bool.{false};
 ghost use Prim.Native.Nat.{_*_, _<_};
-ghost use Rattle.factors.specs.Effective.{effectiveFactor, lumpTop, lumpBottom};
+ghost use lib.Dec.{eqb};
+ghost use Rattle.factors.specs.Effective.{effectiveFactor, lumpTop, lumpBottom, multiplier, multiple};
 
 pub struct Factor {
     pub top: u64,
@@ -38,24 +40,24 @@ fn lump_bottom(t: FactorTerms) -> u64
     10000000 + product(t.increase, t.f3)
 }
 
-// E of a pension of kind 1, of kind 2, or of kind 3, as which any other number counts.
+// E of a pension as 10N/D, whatever its kind: kind 3, as which any number that is no kind counts, has 1,200 for F1, and PI is
+// 0 for all but kind 2. One formula, since kinds come in any order and a branch by them is mispredicted; its tops and
+// bottoms are of one size, so that a division by them does not branch either.
 pub fn effective_factor(kind: u8, t: FactorTerms) -> Factor
-    ensures { λ r. ⌜ r ≡ effectiveFactor kind t ⌝ }
+    ensures { λ r. ⌜ ((eqb kind 2 ≡ false → t .increase ≡ 0) → r ≡ multiple (multiplier kind) (effectiveFactor kind t)) ⌝ }
 {
-    if kind == 1 {
-        let f1 = t.f1 as u64;
-        return Factor {
-            top: f1,
-            bottom: 100,
-        };
+    let first_or_second = (kind == 1) | (kind == 2);
+    let f1 = if first_or_second { t.f1 } else { 1200 };
+    let terms = FactorTerms {
+        f1,
+        f2: t.f2,
+        f3: t.f3,
+        increase: t.increase,
+    };
+    let top = lump_top(terms);
+    let bottom = lump_bottom(terms);
+    Factor {
+        top: 10 * top,
+        bottom,
     }
-    if kind == 2 {
-        let top = lump_top(t);
-        let bottom = lump_bottom(t);
-        return Factor {
-            top: 10 * top,
-            bottom,
-        };
-    }
-    Factor { top: 12, bottom: 1 }
 }

@@ -24,6 +24,7 @@ use Rattle.split.specs.declared.case.Head.{Head}
 use Rattle.split.specs.declared.case.Pension.{Pension}
 use Rattle.split.specs.Case.{noPension}
 use Rattle.split.specs.Refusal.{ageOf, listedF1, noIncrease, listedIncrease, unlisted, conditions, undatedHead, undated, disordered, badAge, unknownKind, wrongAge, noFactor, unstated, totalStated, conditionsWith}
+use Rattle.split.specs.Conditions.{pensionConditions}
 use Rattle.split.specs.Benefits.{workedPension, EarlyPaid, factorOf, limitedLump, benefitOf, benefitsOf, workedTerms}
 use Rattle.split.specs.Limits.{totalPension, totalCap, PositiveTops}
 use Rattle.split.proofs.BenefitsLaws.{cap-quarter, quarter-at-most}
@@ -64,6 +65,21 @@ case-accepted h ps e =
             any-none unstated ps noPension (or-left (any unstated ps) (ltb 50000000 (totalStated ps)) (none 7)) j place;
       };
       sum = ltb-false 50000000 (totalStated ps) (or-right (any unstated ps) (ltb 50000000 (totalStated ps)) (none 7));
+    }
+
+-- and so has a pension of which none holds
+pub pension-accepted : (h : Head) (p : Pension) → lowest 3 (pensionConditions h p) ≡ 0 → AcceptedPension h p
+unfolding pensionConditions
+pension-accepted h p e =
+    let none = none-holds 2 (pensionConditions h p) e in
+    record {
+      dated = none 0;
+      ordered = none 1;
+      known = none 3;
+      listed = none 4;
+      aged = none 5;
+      factored = none 6;
+      stated = none 7;
     }
 
 -- the kind is 1, 2 or 3
@@ -119,10 +135,12 @@ factor-range h p a = go (p .kind) refl
 last-holds : (a b c : Bool) → not (a && (b && c)) ≡ false → c ≡ true
 last-holds a b c e = and-right b c (and-right a (b && c) (not-false (a && (b && c)) e))
 
-none-small : (t : FactorTerms) → noIncrease t ≡ true → t .increase ≤ 10000
+none-zero : (t : FactorTerms) → noIncrease t ≡ true → t .increase ≡ 0
 unfolding noIncrease
-none-small t e =
-    omega (arith, eqb-true (t .increase) 0 (and-right (eqb (t .f3) 0) _ (and-right (eqb (t .f2) 0) _ e)))
+none-zero t e = eqb-true (t .increase) 0 (and-right (eqb (t .f3) 0) _ (and-right (eqb (t .f2) 0) _ e))
+
+none-small : (t : FactorTerms) → noIncrease t ≡ true → t .increase ≤ 10000
+none-small t e = omega (arith, none-zero t e)
 
 listed-small : (t : FactorTerms) → listedIncrease t ≡ true → t .increase ≤ 10000
 unfolding listedIncrease
@@ -142,6 +160,18 @@ increase-small p listed = go (eqb (p .kind) 1) (eqb (p .kind) 2) listed
     go true deferred e = none-small (p .terms) (last-holds (leb (p .lift) 1) (listedF1 (p .terms)) _ e)
     go false true e = listed-small (p .terms) (last-holds (leb (p .lift) 1) (listedF1 (p .terms)) _ e)
     go false false e = none-small (p .terms) (last-holds (eqb (p .lift) 0) (eqb (p .terms .f1) 0) _ e)
+
+-- and 0 for all kinds but 2
+pub increase-none : (p : Pension) → unlisted p ≡ false → eqb (p .kind) 2 ≡ false → p .terms .increase ≡ 0
+unfolding unlisted
+increase-none p listed other = go (eqb (p .kind) 1) (rw other at listed)
+  where
+    go : (direct : Bool)
+        → cond direct (not (leb (p .lift) 1 && (listedF1 (p .terms) && noIncrease (p .terms))))
+        (not (eqb (p .lift) 0 && (eqb (p .terms .f1) 0 && noIncrease (p .terms)))) ≡ false
+        → p .terms .increase ≡ 0
+    go true e = none-zero (p .terms) (last-holds (leb (p .lift) 1) (listedF1 (p .terms)) _ e)
+    go false e = none-zero (p .terms) (last-holds (eqb (p .lift) 0) (eqb (p .terms .f1) 0) _ e)
 
 -- a pension is at most what is stated
 pub worked-at-most : (h : Head) (p : Pension) → workedPension h p ≤ p .stated .0

@@ -87,19 +87,18 @@ lumps-in (p ∷ ps) (c ∷ cs) (l ∷ ls) (w ∷ ws) (suc n) (suc k) s =
     ap (λ (xs : List ℕ). l ∷ xs) (lumps-in ps cs ls ws n k (rest s))
 
 -- prices and caps of pensions make their rows before any turn
-pub rows-start : (ps cs : List ℕ) (bs : List Benefit) (m k : ℕ) → length ps ≡ m → length cs ≡ m → k ≤ m → k ≤ length bs
-    → ((j : ℕ) → j < k → getD ps j 0 ≡ priceOf ((getD bs j noBenefit) .factor))
-    → ((j : ℕ) → j < k → getD cs j 0 ≡ (getD bs j noBenefit) .cap .0)
-    → take k (rowsIn ps cs (replicate m 0) (replicate m true)) ≡ map rowOf (take k bs)
-rows-start ps cs bs m zero x y few inside prices caps = refl
-rows-start ps cs [] m (suc k) x y few inside prices caps = absurd (omega arith)
-rows-start ps cs (b ∷ bs) zero (suc k) x y few inside prices caps = absurd (omega arith)
-rows-start [] cs (b ∷ bs) (suc m) (suc k) x y few inside prices caps = absurd (omega arith)
-rows-start (p ∷ ps) [] (b ∷ bs) (suc m) (suc k) x y few inside prices caps = absurd (omega arith)
-rows-start (p ∷ ps) (c ∷ cs) (b ∷ bs) (suc m) (suc k) x y few inside prices caps =
+pub rows-start : (ps cs : List ℕ) (bs : List Benefit) (m : ℕ) → length ps ≡ m → length cs ≡ m → length bs ≤ m
+    → ((j : ℕ) → j < length bs → getD ps j 0 ≡ priceOf ((getD bs j noBenefit) .factor))
+    → ((j : ℕ) → j < length bs → getD cs j 0 ≡ (getD bs j noBenefit) .cap .0)
+    → take (length bs) (rowsIn ps cs (replicate m 0) (replicate m true)) ≡ map rowOf bs
+rows-start ps cs [] m x y few prices caps = refl
+rows-start ps cs (b ∷ bs) zero x y few prices caps = absurd (omega arith)
+rows-start [] cs (b ∷ bs) (suc m) x y few prices caps = absurd (omega arith)
+rows-start (p ∷ ps) [] (b ∷ bs) (suc m) x y few prices caps = absurd (omega arith)
+rows-start (p ∷ ps) (c ∷ cs) (b ∷ bs) (suc m) x y few prices caps =
     let price = prices 0 (omega arith) in
     let cap = caps 0 (omega arith) in
-    let later = rows-start ps cs bs m k (omega arith) (omega arith) (omega arith) (omega arith)
+    let later = rows-start ps cs bs m (omega arith) (omega arith) (omega arith)
     (λ j h. prices (suc j) (omega arith)) (λ j h. caps (suc j) (omega arith))
     in
     λ i. record { price = price i; cap = record { 0 = cap i }; lump = record { 0 = 0 }; waiting = true } ∷ later i

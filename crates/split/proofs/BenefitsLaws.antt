@@ -29,18 +29,6 @@ use Rattle.split.specs.Limits.{noBenefit}
 use Rattle.split.proofs.Prices.{ring}
 use Rattle.split.proofs.ListLoop.{stored-at}
 
--- the pension, where it is reduced for early payment and where it is kept whole
-pub worked-early : (h : Head) (p : Pension) (age left r : ℕ) → age ≡ ageOf h → (eqb (p .kind) 3 && ltb age 720) ≡ true
-    → left ≡ months (h .commencement) (sixtiethBirthday (h .birth)) → r ≡ reducedPension (p .stated .0) left
-    → r ≡ workedPension h p
-unfolding workedPension
-worked-early h p age left r a early m e = rw (← a, early, ← m) e
-
-pub worked-whole : (h : Head) (p : Pension) (age : ℕ) → age ≡ ageOf h → (eqb (p .kind) 3 && ltb age 720) ≡ false
-    → p .stated .0 ≡ workedPension h p
-unfolding workedPension
-worked-whole h p age a late = rw (← a, late)
-
 -- a quarter's lump is at most twenty pensions
 pub quarter-at-most : (pension : ℕ) (e : Factor) → FactorRange e → quarterLump pension e ≤ 20 * pension
 unfolding quarterLump
@@ -80,19 +68,3 @@ pub factor-made : (age : ℕ) (p : Pension) (t : FactorTerms) (e : Factor) → t
     → e ≡ effectiveFactor (p .kind) t → e ≡ factorOf age p
 unfolding factorOf
 factor-made age p t e x y = y ∙ ap (effectiveFactor (p .kind)) x
-
--- a pension as the limits see it, of its parts
-pub benefit-made : (h : Head) (p : Pension) (age : ℕ) (pension : YearlyPence) (e : Factor) (limited : Bool) (cap : LumpPence)
-    → age ≡ ageOf h → pension .0 ≡ workedPension h p → e ≡ factorOf age p → limited ≡ limitedLump p
-    → cap .0 ≡ capOf limited (pension .0) e
-    → _≡_ {A = Benefit} (record { pension = pension; factor = e; cap = cap }) (benefitOf h p)
-unfolding benefitOf
-benefit-made h p age pension e limited cap a x y l z =
-    let factor : e ≡ factorOf (ageOf h) p = rw (← a) y in
-    let capped : cap .0 ≡ capOf (limitedLump p) (workedPension h p) (factorOf (ageOf h) p) = rw (← l, ← x, ← factor) z in
-    λ i. record { pension = record { 0 = x i }; factor = factor i; cap = record { 0 = capped i } }
-
--- a pension as the limits see it, at its place
-pub benefit-at : (h : Head) (ps : List Pension) (bs : List Benefit) (n j : ℕ) → n ≤ length ps → j < n
-    → take n bs ≡ benefitsOf h (take n ps) → getD bs j noBenefit ≡ benefitOf h (getD ps j noPension)
-benefit-at h ps bs n j inside place e = stored-at (benefitOf h) ps bs n j noPension noBenefit inside place e

@@ -2,17 +2,19 @@
 -- conditions joined place by place with another has the lower of their lowest. Assumes nothing.
 use Prim.Native.Nat.{ℕ, zero, suc, _≤_, _<_, min}
 use mathlib.Core.Path.{_≡_, refl, sym, _∙_, ap}
-use mathlib.Core.Bool.{Bool, true, false, cond, _||_, or-false, or-assoc}
+use mathlib.Core.Bool.{Bool, true, false, cond, not, _||_, or-false, or-assoc}
 use mathlib.Core.Logic.{_⊎_, inl, inr, ⊎-elim}
 use mathlib.Core.List.{List, [], _∷_, _++_}
 use native.Mathlib.Omega.{arith}
 use lib.ListN.{length}
-use borrow.Author.Tests.{ne-eqb}
+use borrow.Author.Tests.{ne-eqb, not-true}
+use Rattle.calendar.specs.Calendar.{commonDate}
 use Rattle.calendar.specs.Tests.{lowest}
+use Rattle.calendar.proofs.CalendarLaws.{common-in}
 use Rattle.calendar.proofs.TestsLaws.{any-snoc}
 use Rattle.split.specs.declared.case.Head.{Head}
 use Rattle.split.specs.declared.case.Pension.{Pension}
-use Rattle.split.specs.Refusal.{ageOf, undated, disordered, unknownKind, conditionsWith}
+use Rattle.split.specs.Refusal.{ageOf, undated, disordered, unknownKind, unlisted, wrongAge, noFactor, unstated, conditionsWith}
 use Rattle.split.specs.Conditions.{lower, laterConditions, pensionConditions}
 
 -- two lists of conditions, place by place
@@ -34,6 +36,11 @@ none-lower b = refl
 lower-both : (a b : ℕ) → 0 < a → 0 < b → lower a b ≡ min a b
 unfolding lower
 lower-both a b p q = simp (ne-eqb a 0 (omega arith), ne-eqb b 0 (omega arith))
+
+pub lower-zero : (a b : ℕ) → lower a b ≡ 0 → (a ≡ 0) × (b ≡ 0)
+lower-zero zero b e = (refl, sym (none-lower b) ∙ e)
+lower-zero (suc a) zero e = absurd (omega (arith, lower-none (suc a)))
+lower-zero (suc a) (suc b) e = absurd (omega (arith, lower-both (suc a) (suc b) (omega arith) (omega arith)))
 
 -- a lowest condition counted from k is none or at least k
 lowest-from : (k : ℕ) (bs : List Bool) → (lowest k bs ≡ 0) ⊎ (k ≤ lowest k bs)
@@ -102,3 +109,15 @@ pub pension-lowest : (h : Head) (p : Pension) (age : ℕ) → age ≡ ageOf h �
     (cond (unknownKind p) 6 (lowest 7 (laterConditions age p))))
 unfolding pensionConditions
 pension-lowest h p age e = rw e
+
+-- a service of common dates in order breaks neither of the first two
+pub service-plain : (h : Head) (p : Pension) (d : Bool) → commonDate (p .service .start) ≡ true → commonDate (p .service .end) ≡ true
+    → d ≡ disordered h p → not d ≡ true → (undated p ≡ false) × (disordered h p ≡ false)
+unfolding undated
+service-plain h p d start end made ordered =
+    (simp (common-in (p .service .start) start, common-in (p .service .end) end), sym made ∙ not-true d ordered)
+
+-- where none of the conditions after the kind holds, the lowest of them is none
+pub later-none : (age : ℕ) (p : Pension) → unlisted p ≡ false → wrongAge age p ≡ false → noFactor age p ≡ false → unstated p ≡ false
+    → lowest 7 (laterConditions age p) ≡ 0
+later-none age p a b c d = simp (a, b, c, d)

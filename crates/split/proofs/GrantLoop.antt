@@ -136,8 +136,7 @@ turns-idle n (suc m) left rs h =
     rw (le-ltb (cheapest (take n rs)) (length (take n rs)) (rw length-take (omega arith)))
 
 -- as many turns of the rows of pensions as there are pensions are the grant
-pub grant-made : (bs : List Benefit) (n limit : ℕ) (rs : List Row) (lumps : List ℕ) → n ≤ length bs
-    → take n rs ≡ map rowOf (take n bs) → limit ≡ pricedLimit (take n bs) → lumps ≡ lumpsOf (turns n (take n rs) limit)
-    → lumps ≡ grant (take n bs)
+pub grant-made : (bs : List Benefit) (n limit : ℕ) (rs : List Row) (lumps : List ℕ) → length bs ≡ n
+    → take n rs ≡ map rowOf bs → limit ≡ pricedLimit bs → lumps ≡ lumpsOf (turns n (take n rs) limit) → lumps ≡ grant bs
 unfolding grant
-grant-made bs n limit rs lumps whole made l e = rw (length-take-le n bs whole, e, made, l)
+grant-made bs n limit rs lumps counted made l e = rw (counted, e, made, l)

@@ -6,8 +6,8 @@ use mathlib.Core.List.{List, [], _∷_, _++_, map, map-append, append-assoc}
 use native.Mathlib.Nat.{le-antisymm}
 use native.Mathlib.Numerals.{add-one}
 use native.Mathlib.Omega.{arith}
-use lib.ListN.{length, getD, take, set, replicate}
-use lib.Seq.{take-suc, take-suc-set, set-at, getD-take, length-take-le}
+use lib.ListN.{length, getD, take, set, replicate, length-append}
+use lib.Seq.{take-suc, take-suc-set, set-at, getD-take}
 
 -- a store just past a part makes the part one longer
 pub take-set-more : {A : Type 0} (l : List A) (i : ℕ) (x : A) → i < length l → take (i + 1) (set l i x) ≡ take i l ++ (x ∷ [])
@@ -24,26 +24,24 @@ store-next xs n i x z counted h =
 pub take-next : {A : Type 0} (l : List A) (i : ℕ) (d : A) → i < length l → take (i + 1) l ≡ take i l ++ (getD l i d ∷ [])
 take-next l i d h = rw add-one (take-suc l i d h)
 
--- what is made of the next element and stored at its place makes the filled part one longer
-pub map-stored : {A B : Type 0} (f : A → B) (xs : List A) (ys : List B) (i : ℕ) (d : A) (y : B) → i < length xs
-    → i < length ys → take i ys ≡ map f (take i xs) → y ≡ f (getD xs i d)
-    → take (i + 1) (set ys i y) ≡ map f (take (i + 1) xs)
-map-stored f xs ys i d y h g t e =
-    rw (take-set-more ys i y g, t, e, take-next xs i d h) (sym (map-append f (take i xs) (getD xs i d ∷ [])))
+-- what is made of one more element and stored behind the filled part makes that part one longer
+pub map-stored : {A B : Type 0} (f : A → B) (xs : List A) (ys : List B) (i : ℕ) (x : A) (y : B) → length xs ≡ i
+    → i < length ys → take (length xs) ys ≡ map f xs → y ≡ f x
+    → take (length (xs ++ (x ∷ []))) (set ys i y) ≡ map f (xs ++ (x ∷ []))
+map-stored f xs ys i x y counted g t e =
+    let more : length (xs ++ (x ∷ [])) ≡ i + 1 = omega (arith, length-append xs (x ∷ [])) in
+    rw (more, take-set-more ys i y g, e, ← counted, t) (sym (map-append f xs (x ∷ [])))
 
 -- and what is stored at a place of it is made of that element
-map-at : {A B : Type 0} (f : A → B) (l : List A) (j : ℕ) (d : A) (e : B) → j < length l → getD (map f l) j e ≡ f (getD l j d)
+pub map-at : {A B : Type 0} (f : A → B) (l : List A) (j : ℕ) (d : A) (e : B) → j < length l → getD (map f l) j e ≡ f (getD l j d)
 map-at f [] j d e h = absurd (omega arith)
 map-at f (x ∷ l) zero d e h = refl
 map-at f (x ∷ l) (suc j) d e h = map-at f l j d e (omega arith)
 
-pub stored-at : {A B : Type 0} (f : A → B) (xs : List A) (ys : List B) (n j : ℕ) (d : A) (e : B) → n ≤ length xs → j < n
-    → take n ys ≡ map f (take n xs) → getD ys j e ≡ f (getD xs j d)
-stored-at {B = B} f xs ys n j d e inside place made =
-    sym (getD-take n ys j e place)
-    ∙ ap (λ (l : List B). getD l j e) made
-    ∙ map-at f (take n xs) j d e (rw (length-take-le n xs inside) place)
-    ∙ ap f (getD-take n xs j d place)
+pub stored-at : {A B : Type 0} (f : A → B) (xs : List A) (ys : List B) (j : ℕ) (d : A) (e : B) → j < length xs
+    → take (length xs) ys ≡ map f xs → getD ys j e ≡ f (getD xs j d)
+stored-at {B = B} f xs ys j d e place made =
+    sym (getD-take (length xs) ys j e place) ∙ ap (λ (l : List B). getD l j e) made ∙ map-at f xs j d e place
 
 -- numbers up to a list's known length
 pub up-to : {A : Type 0} (l : List A) {k n : ℕ} → length l ≡ n → k ≤ n → k ≤ length l

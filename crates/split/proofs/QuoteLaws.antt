@@ -13,21 +13,20 @@ use lib.Seq.{take-at, drop-at}
 use borrow.Author.Tests.{eqb-true}
 use Rattle.split.specs.declared.case.Head.{Head}
 use Rattle.split.specs.declared.case.Pension.{Pension}
-use Rattle.split.specs.declared.case.Case.{Case}
 use Rattle.split.specs.declared.answers.Share.{Share}
 use Rattle.split.specs.declared.answers.Quote.{Quote}
-use Rattle.split.specs.Case.{headAt, headOf, pensionsOf}
+use Rattle.split.specs.Case.{headAt, headOf, pensionsAt, pensionsOf}
 use Rattle.split.specs.Frame.{badCharacter}
 use Rattle.split.specs.Refusal.{badLength, conditions, refusalOf}
 use Rattle.calendar.specs.Tests.{lowest}
-use Rattle.split.specs.Reading.{caseOf}
 use Rattle.split.specs.Benefits.{workedTerms, benefitOf, benefitsOf}
 use Rattle.split.specs.Limits.{total, WithinCaps, Best}
+use Rattle.split.specs.Working.{caseQuote}
 use Rattle.split.specs.Quote.{remainingOf, secondOf, shareOf, noShare, sharesOf, lumpsGranted, grantedQuote, refusedQuote, quoteOf, lumpsIn, BestLumps, SharesFit, QuoteFits}
 use Rattle.calendar.proofs.TestsLaws.{lowest-none, by-zero}
 use Rattle.split.proofs.FrameLaws.{number-below}
 use Rattle.split.proofs.CaseLaws.{pensions-counted}
-use Rattle.split.proofs.ReadingLaws.{count-listed, Read, case-unread}
+use Rattle.split.proofs.ReadingLaws.{count-listed}
 use Rattle.split.proofs.Best.{grant-best}
 use Rattle.split.proofs.LimitsLaws.{total-capped}
 use Rattle.split.proofs.Accepted.{AcceptedPension, Accepted, case-accepted, deferred-terms, accepted-rest, accepted-tops, accepted-caps, accepted-pensions}
@@ -205,26 +204,12 @@ quote-best s e =
     by-refusal (λ q. BestLumps s (lumpsIn (q .shares)) (q .total .0)) s (λ z. granted-best s (case-granted s z))
     (λ ne. absurd (ne e))
 
--- a line of which no case can be read is refused
-pub quote-unread : (s : List ℕ) (c : Case) (q : Quote) → c ≡ caseOf s → (c .refusal ≡ 0 → ⊥) → q ≡ refusedQuote (c .refusal)
-    → q ≡ quoteOf s
-quote-unread s c q made some refused = refused ∙ refused-as s (c .refusal) some (case-unread s c made some)
+-- a line that is refused
+pub quote-refused : (s : List ℕ) (r : ℕ) (q : Quote) → (r ≡ 0 → ⊥) → refusalOf s ≡ r → q ≡ refusedQuote r → q ≡ quoteOf s
+quote-refused s r q some e made = made ∙ refused-as s r some e
 
--- what the code has read of a line, and the refusal of its case
-module _ {s : List ℕ} {c : Case} {refused : ℕ} (read : Read s c)
-    (judged : refused ≡ lowest 3 (conditions (c .head) (take (c .head .count) (c .pensions)))) where
-  case-of : refusalOf s ≡ refused
-  case-of =
-      read .judged
-      ∙ sym (judged ∙ ap (λ (l : List Pension). lowest 3 (conditions (c .head) l)) (read .taken)
-      ∙ ap (λ (h : Head). lowest 3 (conditions h (pensionsOf s))) (read .head))
-
-  -- refused by its case
-  pub quote-refused : (q : Quote) → (refused ≡ 0 → ⊥) → q ≡ refusedQuote refused → q ≡ quoteOf s
-  quote-refused q some made = made ∙ refused-as s refused some case-of
-
-  -- granted
-  pub quote-granted : (q : Quote) → refused ≡ 0 → q ≡ grantedQuote (c .head) (take (c .head .count) (c .pensions)) → q ≡ quoteOf s
-  quote-granted q passed made =
-      made ∙ ap (λ (l : List Pension). grantedQuote (c .head) l) (read .taken)
-      ∙ ap (λ (h : Head). grantedQuote h (pensionsOf s)) (read .head) ∙ granted-as s (case-of ∙ passed)
+-- and one whose refusal is that of the case that was read: the quote is the case's too
+pub quote-read : (s : List ℕ) (h : Head) (q : Quote) → h ≡ headOf s → refusalOf s ≡ lowest 3 (conditions (headOf s) (pensionsOf s))
+    → q ≡ caseQuote h (pensionsAt s (h .count)) → q ≡ quoteOf s
+unfolding caseQuote quoteOf
+quote-read s h q read e made = made ∙ rw (read, e)

@@ -1,49 +1,38 @@
 -- What a turn of the loop that makes shares does: a share stored at its place makes the shares one longer, with no share in
 -- the places after them. Assumes nothing.
-use Prim.Native.Nat.{ℕ, _+_, _-_, _≤_, _<_}
+use Prim.Native.Nat.{ℕ, zero, suc, _+_, _-_, _≤_, _<_}
 use mathlib.Core.List.{List, [], _∷_, _++_}
-use mathlib.Core.Path.{_≡_, _∙_}
+use mathlib.Core.Path.{_≡_, refl}
+use native.Mathlib.Numerals.{add-one}
 use native.Mathlib.Omega.{arith}
-use lib.ListN.{length, getD, take, set, replicate, length-take}
-use lib.Seq.{length-take-le}
-use Rattle.split.specs.declared.case.Head.{Head}
-use Rattle.split.specs.declared.case.Pension.{Pension}
+use lib.ListN.{length, getD, set, replicate, length-append}
 use Rattle.split.specs.declared.answers.Share.{Share}
-use Rattle.split.specs.Case.{noPension}
-use Rattle.split.specs.Quote.{shareOf, noShare, sharesOf, padded}
-use Rattle.split.proofs.ListLoop.{store-next, take-next}
-use Rattle.split.proofs.QuoteLaws.{shares-counted, shares-more}
+use Rattle.split.specs.Quote.{noShare, padded}
+use Rattle.split.specs.Working.{shareIn, factorIn, sharesIn}
+use Rattle.split.proofs.ListLoop.{store-next}
 
--- as many lumps as pensions in the first places
-parts-counted : (ps : List Pension) (xs : List ℕ) (n : ℕ) → length ps ≡ 4 → length xs ≡ 4
-    → length (take n xs) ≡ length (take n ps)
-parts-counted ps xs n four lumps = rw (length-take n xs, length-take n ps, four, lumps)
+module _ (ps ts bs is xs : List ℕ) where
+  -- as many shares as places
+  pub shares-placed : (n : ℕ) → length (sharesIn ps ts bs is xs n) ≡ n
+  unfolding sharesIn
+  shares-placed zero = refl
+  shares-placed (suc n) =
+      omega (
+        arith,
+        shares-placed n,
+        length-append (sharesIn ps ts bs is xs n) (shareIn (getD ps n 0) (factorIn ts bs n) (getD is n 0) (getD xs n 0) ∷ []),
+      )
 
-part-shares : (h : Head) (ps : List Pension) (xs : List ℕ) (n : ℕ) → length ps ≡ 4 → length xs ≡ 4 → n ≤ 4
-    → length (sharesOf h (take n ps) (take n xs)) ≡ n
-part-shares h ps xs n four lumps few =
-    shares-counted h (take n ps) (take n xs) (parts-counted ps xs n four lumps) ∙ length-take-le n ps (omega arith)
+  -- a share made of the next figures and stored at its place
+  pub share-stored : (i : ℕ) (share : Share) (shares : List Share) → i < 4
+      → shares ≡ sharesIn ps ts bs is xs i ++ replicate (4 - i) noShare
+      → share ≡ shareIn (getD ps i 0) (factorIn ts bs i) (getD is i 0) (getD xs i 0)
+      → set shares i share ≡ sharesIn ps ts bs is xs (i + 1) ++ replicate (4 - (i + 1)) noShare
+  unfolding sharesIn
+  share-stored i share shares place e made =
+      rw (e, made, add-one i) (rw (← add-one i) (store-next (sharesIn ps ts bs is xs i) 4 i _ noShare (shares-placed i) place))
 
--- a share made of the next pension and stored at its place
-pub share-stored : (h : Head) (ps : List Pension) (xs : List ℕ) (i : ℕ) (share : Share) (shares : List Share)
-    → length ps ≡ 4 → length xs ≡ 4 → i < 4
-    → shares ≡ sharesOf h (take i ps) (take i xs) ++ replicate (4 - i) noShare
-    → share ≡ shareOf h (getD ps i noPension) (getD xs i 0)
-    → set shares i share ≡ sharesOf h (take (i + 1) ps) (take (i + 1) xs) ++ replicate (4 - (i + 1)) noShare
-share-stored h ps xs i share shares four lumps place e made =
-    let p = getD ps i noPension in
-    let x = getD xs i 0 in
-    let longer : sharesOf h (take (i + 1) ps) (take (i + 1) xs)
-    ≡ sharesOf h (take i ps) (take i xs) ++ (shareOf h p x ∷ []) =
-    rw (take-next ps i noPension (omega arith), take-next xs i 0 (omega arith))
-    (shares-more h (take i ps) (take i xs) p x (parts-counted ps xs i four lumps))
-    in
-    rw (longer, e, made)
-    (store-next (sharesOf h (take i ps) (take i xs)) 4 i (shareOf h p x) noShare
-    (part-shares h ps xs i four lumps (omega arith)) place)
-
--- after the last, no share fills the other places
-pub shares-whole : (h : Head) (ps : List Pension) (xs : List ℕ) (i n : ℕ) (shares : List Share) → length ps ≡ 4
-    → length xs ≡ 4 → n ≤ 4 → i ≡ n → shares ≡ sharesOf h (take i ps) (take i xs) ++ replicate (4 - i) noShare
-    → shares ≡ padded (sharesOf h (take n ps) (take n xs))
-shares-whole h ps xs i n shares four lumps few whole e = rw (part-shares h ps xs n four lumps few, ← whole) e
+  -- after the last, no share fills the other places
+  pub shares-whole : (i n : ℕ) (shares : List Share) → i ≡ n → shares ≡ sharesIn ps ts bs is xs i ++ replicate (4 - i) noShare
+      → shares ≡ padded (sharesIn ps ts bs is xs n)
+  shares-whole i n shares whole e = rw (shares-placed n, ← whole) e

@@ -1,7 +1,6 @@
 -- A case line's head and pensions ("Case line" of document 01), over any bytes. Assumes nothing.
-use Prim.Native.Nat.{ℕ, zero, suc, _+_, _-_, _*_}
+use Prim.Native.Nat.{ℕ, zero, suc, _+_, _*_}
 use mathlib.Core.List.{List, [], _∷_, _++_}
-use lib.ListN.{replicate}
 use Rattle.calendar.specs.Calendar.{date}
 use Rattle.factors.specs.declared.effective.FactorTerms.{FactorTerms}
 use Rattle.split.specs.declared.case.Head.{Head}
@@ -78,10 +77,6 @@ longestLine = caseLength 4
 unfoldable pub pensionsAt : List ℕ → ℕ → List Pension
 pensionsAt s zero = []
 pensionsAt s (suc k) = pensionsAt s k ++ (pensionAt s (caseLength k) ∷ [])
-
--- in four places, the rest of which stand for none
-abbrev pub placesAt : List ℕ → ℕ → List Pension
-placesAt s k = pensionsAt s k ++ replicate (4 - k) noPension
 
 -- the pensions of the line: as many as its head says
 abbrev pub pensionsOf : List ℕ → List Pension

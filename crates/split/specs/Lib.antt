@@ -9,5 +9,5 @@ pub mod Grant
 pub mod Limits
 pub mod Quote
 pub mod Ranges
-pub mod Reading
 pub mod Refusal
+pub mod Working

@@ -3,24 +3,24 @@
 use Prim.Native.Nat.{ℕ, _*_, _/_, _≤_, _<_}
 use mathlib.Core.List.{List}
 use mathlib.Core.Path.{_≡_}
-use lib.ListN.{getD, take}
+use lib.ListN.{length, getD}
+use Rattle.factors.specs.declared.effective.Factor.{Factor}
 use Rattle.factors.specs.Effective.{FactorRange}
-use Rattle.split.specs.declared.case.Head.{Head}
-use Rattle.split.specs.declared.case.Pension.{Pension}
-use Rattle.split.specs.declared.limits.Benefit.{Benefit}
-use Rattle.split.specs.Case.{noPension}
-use Rattle.split.specs.Benefits.{benefitsOf}
-use Rattle.split.specs.Limits.{noBenefit}
+use Rattle.split.specs.Working.{factorIn}
 
 -- a pension and its lump, for what remains of it
-pub record ShareRange (b : Benefit) (lump : ℕ) : Type 0 where
-  pub factor : FactorRange (b .factor)
+pub record ShareRange (pension : ℕ) (e : Factor) (lump : ℕ) : Type 0 where
+  pub factor : FactorRange e
   pub lump-high : lump ≤ 1000000000
-  pub given-up : lump * b .factor .bottom / b .factor .top ≤ b .pension .0
+  pub given-up : lump * e .bottom / e .top ≤ pension
 
--- the pensions of a case, as the limits see them and with their lumps, in n places
-pub record SharesRange (h : Head) (ps : List Pension) (bs : List Benefit) (lumps : List ℕ) (n : ℕ) : Type 0 where
+-- the figures of pensions and their lumps in n places
+pub record SharesRange (ps ts bs is xs : List ℕ) (n : ℕ) : Type 0 where
   pub places : n ≤ 4
-  pub benefits : take n bs ≡ benefitsOf h (take n ps)
-  pub ranges : (j : ℕ) → j < n → ShareRange (getD bs j noBenefit) (getD lumps j 0)
-  pub increases : (j : ℕ) → j < n → getD ps j noPension .terms .increase ≤ 10000
+  pub pensions : length ps ≡ 4
+  pub tops : length ts ≡ 4
+  pub bottoms : length bs ≡ 4
+  pub increases : length is ≡ 4
+  pub lumps : length xs ≡ 4
+  pub ranges : (j : ℕ) → j < n → ShareRange (getD ps j 0) (factorIn ts bs j) (getD xs j 0)
+  pub small : (j : ℕ) → j < n → getD is j 0 ≤ 10000

@@ -1,16 +1,12 @@
 // The grant: lowest price first, equal prices in line order, each pension the most its cap and what is left of the
 // priced limit allow. Figures of pensions stand in arrays of numbers, since no array of structs can be lent.
-use crate::limits;
-use crate::limits::Benefit;
 use factors::money::LumpPence;
 ghost use mathlib.Core.Path.{_≡_};
 ghost use mathlib.Core.Bool.{true};
 ghost use mathlib.Core.List.{List};
 ghost use Prim.Native.Nat.{ℕ, _/_, _≤_, _<_, min};
 ghost use lib.ListN.{length, getD, take, replicate};
-ghost use Rattle.factors.specs.Effective.{FactorRange};
-ghost use Rattle.split.specs.Limits.{noBenefit, totalPension};
-ghost use Rattle.split.specs.Grant.{Row, goesFirst, cheapest, turns, lumpsOf, grant};
+ghost use Rattle.split.specs.Grant.{Row, goesFirst, cheapest, turns, lumpsOf};
 ghost use Rattle.split.specs.Arrays.{rowsIn};
 
 // Whether a price has its turn before one behind it: lowest price first, equal prices in line order.
@@ -53,7 +49,7 @@ fn most_of(cap: LumpPence, price: u64, left: u64) -> LumpPence
 }
 
 // The first n pensions have their turns one after the other, and are given their lumps.
-fn take_turns(prices: &[u64; 4], caps: &[u32; 4], n: usize, limit: u64, lumps: &mut [u32; 4])
+pub fn take_turns(prices: &[u64; 4], caps: &[u32; 4], n: usize, limit: u64, lumps: &mut [u32; 4])
     requires { ⌜ (n ≤ 4) × (length (now prices) ≡ 4) × (length (now caps) ≡ 4) × ((j : ℕ) → j < n → 0 < getD (now prices) j 0) × (now lumps ≡ replicate 4 0) ⌝ }
     ensures { λ _. ⌜ (take n (now (lumps .exit)) ≡ lumpsOf (turns n (take n (rowsIn (now (prices .entry)) (now (caps .entry)) (replicate 4 0) (replicate 4 true))) limit)) × (length (now (lumps .exit)) ≡ 4) ⌝ }
 {
@@ -73,26 +69,4 @@ fn take_turns(prices: &[u64; 4], caps: &[u32; 4], n: usize, limit: u64, lumps: &
         left -= spent;
         done += 1;
     }
-}
-
-// Grants the first n pensions their lumps, which are zero before.
-pub fn grant_of(benefits: [Benefit; 4], n: usize, lumps: &mut [u32; 4])
-    requires { ⌜ (n ≤ 4) × ((j : ℕ) → j < n → FactorRange (getD benefits j noBenefit .factor)) × (totalPension (take n benefits) ≤ 50000000) × (now lumps ≡ replicate 4 0) ⌝ }
-    ensures { λ _. ⌜ (take n (now (lumps .exit)) ≡ grant (take n benefits)) × (length (now (lumps .exit)) ≡ 4) ⌝ }
-{
-    let mut prices = [0u64; 4];
-    let mut caps = [0u32; 4];
-    let mut total: u64 = 0;
-    let mut i = 0;
-    while i < n {
-        let benefit = benefits[i];
-        let factor = benefit.factor;
-        let cap = benefit.cap;
-        let pension = benefit.pension;
-        prices[i] = limits::price_of(factor);
-        caps[i] = cap.0;
-        total += pension.0 as u64;
-        i += 1;
-    }
-    take_turns(&prices, &caps, n, 20000000000 * total, lumps);
 }

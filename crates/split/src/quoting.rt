@@ -2,20 +2,21 @@
 use crate::answers::Quote;
 use crate::answers::Share;
 use crate::case::Head;
-use crate::case::Pension;
+use crate::frame::Cursor;
+use crate::frame::LONGEST;
 use crate::grant;
-use crate::limits;
-use crate::limits::Benefit;
+use crate::pensions;
+use factors::effective::Factor;
 use factors::money::LumpPence;
 use factors::money::YearlyPence;
 ghost use mathlib.Core.Path.{_≡_};
-ghost use Prim.Native.Nat.{_*_, _/_, _≤_, _<_};
+ghost use Prim.Native.Nat.{_-_, _*_, _/_, _≤_};
 ghost use lib.ListN.{length, take};
-ghost use Rattle.split.specs.Refusal.{conditions};
-ghost use Rattle.calendar.specs.Tests.{lowest};
-ghost use Rattle.split.specs.Benefits.{benefitOf};
+ghost use Rattle.split.specs.Case.{pensionsAt, headLength, caseLength};
+ghost use Rattle.split.specs.Bytes.{FieldOf};
 ghost use Rattle.split.specs.Limits.{total};
-ghost use Rattle.split.specs.Quote.{remainingOf, secondOf, shareOf, sharesOf, padded, noShare, refusedQuote, grantedQuote};
+ghost use Rattle.split.specs.Quote.{padded, noShare, refusedQuote};
+ghost use Rattle.split.specs.Working.{shareIn, sharesIn, caseQuote};
 ghost use Rattle.split.specs.Ranges.{ShareRange, SharesRange};
 
 fn no_share() -> Share
@@ -29,35 +30,28 @@ fn no_share() -> Share
 }
 
 // What remains of a pension once a lump is taken.
-fn remaining_of(b: Benefit, lump: LumpPence) -> YearlyPence
-    requires { ⌜ ShareRange b (lump .0) ⌝ }
-    ensures { λ r. ⌜ r .0 ≡ remainingOf b (lump .0) ⌝ }
+fn remaining_of(pension: YearlyPence, e: Factor, lump: LumpPence) -> YearlyPence
+    requires { ⌜ ShareRange (pension .0) e (lump .0) ⌝ }
+    ensures { λ r. ⌜ r .0 ≡ pension .0 - lump .0 * e .bottom / e .top ⌝ }
 {
-    let factor = b.factor;
-    let pension = b.pension;
-    let given_up = lump.0 as u64 * factor.bottom / factor.top;
+    let given_up = lump.0 as u64 * e.bottom / e.top;
     YearlyPence(pension.0 - given_up as u32)
 }
 
-// The second instalment, which kind 2 has.
-fn second_of(p: Pension, lump: LumpPence) -> LumpPence
-    requires { ⌜ (lump .0 ≤ 1000000000) × (p .terms .increase ≤ 10000) ⌝ }
-    ensures { λ r. ⌜ r .0 ≡ secondOf p (lump .0) ⌝ }
+// The second instalment of an increase, which is 0 for all kinds but 2.
+fn second_of(increase: u16, lump: LumpPence) -> LumpPence
+    requires { ⌜ (lump .0 ≤ 1000000000) × (increase ≤ 10000) ⌝ }
+    ensures { λ r. ⌜ r .0 ≡ lump .0 * increase / 10000 ⌝ }
 {
-    if p.kind == 2 {
-        let terms = p.terms;
-        let increase = terms.increase as u64;
-        return LumpPence((lump.0 as u64 * increase / 10000) as u32);
-    }
-    LumpPence(0)
+    LumpPence((lump.0 as u64 * increase as u64 / 10000) as u32)
 }
 
-fn share_of(head: Head, p: Pension, b: Benefit, lump: LumpPence) -> Share
-    requires { ⌜ (b ≡ benefitOf head p) × ShareRange b (lump .0) × (p .terms .increase ≤ 10000) ⌝ }
-    ensures { λ r. ⌜ r ≡ shareOf head p (lump .0) ⌝ }
+fn share_of(pension: YearlyPence, e: Factor, increase: u16, lump: LumpPence) -> Share
+    requires { ⌜ ShareRange (pension .0) e (lump .0) × (increase ≤ 10000) ⌝ }
+    ensures { λ r. ⌜ r ≡ shareIn (pension .0) e increase (lump .0) ⌝ }
 {
-    let remaining = remaining_of(b, lump);
-    let second = second_of(p, lump);
+    let remaining = remaining_of(pension, e, lump);
+    let second = second_of(increase, lump);
     Share {
         lump,
         remaining,
@@ -67,52 +61,80 @@ fn share_of(head: Head, p: Pension, b: Benefit, lump: LumpPence) -> Share
 
 // The figures of the first n pensions, and zeros in the places after them.
 fn shares_of(
-    head: Head,
-    pensions: [Pension; 4],
-    benefits: [Benefit; 4],
+    pensions: &[u32; 4],
+    tops: &[u64; 4],
+    bottoms: &[u64; 4],
+    increases: &[u16; 4],
     lumps: &[u32; 4],
     n: usize,
 ) -> [Share; 4]
-    requires { ⌜ SharesRange head pensions benefits (now lumps) n × (length (now lumps) ≡ 4) ⌝ }
-    ensures { λ r. ⌜ r ≡ padded (sharesOf head (take n pensions) (take n (now (lumps .entry)))) ⌝ }
+    requires { ⌜ SharesRange (now pensions) (now tops) (now bottoms) (now increases) (now lumps) n ⌝ }
+    ensures { λ r. ⌜ r ≡ padded (sharesIn (now (pensions .entry)) (now (tops .entry)) (now (bottoms .entry)) (now (increases .entry)) (now (lumps .entry)) n) ⌝ }
 {
     let mut shares = [no_share(); 4];
     let mut i = 0;
     while i < n {
-        let pension = pensions[i];
-        let benefit = benefits[i];
-        let lump = LumpPence(lumps[i]);
-        let share = share_of(head, pension, benefit, lump);
+        let factor = Factor {
+            top: tops[i],
+            bottom: bottoms[i],
+        };
+        let share = share_of(
+            YearlyPence(pensions[i]),
+            factor,
+            increases[i],
+            LumpPence(lumps[i]),
+        );
         shares[i] = share;
         i += 1;
     }
     shares
 }
 
-// The first n lumps together.
-fn total_of(lumps: &[u32; 4], n: usize) -> LumpPence
-    requires { ⌜ (n ≤ 4) × (length (now lumps) ≡ 4) × (total (take n (now lumps)) ≤ 1000000000) ⌝ }
-    ensures { λ r. ⌜ r .0 ≡ total (take n (now (lumps .entry))) ⌝ }
+// The first n numbers together.
+fn sum_of(numbers: &[u32; 4], n: usize) -> u32
+    requires { ⌜ (n ≤ 4) × (length (now numbers) ≡ 4) × (total (take n (now numbers)) ≤ 1000000000) ⌝ }
+    ensures { λ r. ⌜ r ≡ total (take n (now (numbers .entry))) ⌝ }
 {
     let mut sum: u32 = 0;
     let mut i = 0;
     while i < n {
-        sum += lumps[i];
+        sum += numbers[i];
         i += 1;
     }
-    LumpPence(sum)
+    sum
 }
 
-// The grant of an accepted case with n pensions.
-pub fn granted_quote(head: Head, pensions: [Pension; 4], n: usize) -> Quote
-    requires { ⌜ (n ≤ 4) × (lowest 3 (conditions head (take n pensions)) ≡ 0) ⌝ }
-    ensures { λ r. ⌜ r ≡ grantedQuote head (take n pensions) ⌝ }
+// The quote of a case with n pensions, the first of which is where the cursor stands.
+pub fn case_quote(bytes: &[u8; LONGEST], at: Cursor, head: Head, n: usize) -> Quote
+    requires { ⌜ (at .at ≡ headLength) × (n ≤ 4) ⌝ }
+    ensures { λ r. ⌜ FieldOf (now (bytes .entry)) (caseLength n) r (λ s. caseQuote head (pensionsAt s n)) ⌝ }
 {
-    let benefits = limits::benefits_of(head, pensions, n);
+    let mut pensions = [0u32; 4];
+    let mut tops = [0u64; 4];
+    let mut bottoms = [0u64; 4];
+    let mut caps = [0u32; 4];
+    let mut prices = [0u64; 4];
+    let mut increases = [0u16; 4];
+    let refused = pensions::work_out(
+        bytes,
+        at,
+        head,
+        n,
+        &mut pensions,
+        &mut tops,
+        &mut bottoms,
+        &mut caps,
+        &mut prices,
+        &mut increases,
+    );
+    if refused != 0 {
+        return refused_quote(refused);
+    }
+    let limit = 20000000000 * (sum_of(&pensions, n) as u64);
     let mut lumps = [0u32; 4];
-    grant::grant_of(benefits, n, &mut lumps);
-    let total = total_of(&lumps, n);
-    let shares = shares_of(head, pensions, benefits, &lumps, n);
+    grant::take_turns(&prices, &caps, n, limit, &mut lumps);
+    let total = LumpPence(sum_of(&lumps, n));
+    let shares = shares_of(&pensions, &tops, &bottoms, &increases, &lumps, n);
     Quote {
         refusal: 0,
         member: head.member,

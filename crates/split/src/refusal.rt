@@ -3,12 +3,10 @@ use crate::case::Head;
 use crate::case::Pension;
 use crate::frame;
 ghost use mathlib.Core.Path.{_≡_};
-ghost use mathlib.Core.Bool.{false, cond};
+ghost use mathlib.Core.Bool.{true, false, cond};
 ghost use mathlib.Core.List.{[]};
-ghost use Prim.Native.Nat.{_≤_, _<_};
 ghost use lib.Dec.{eqb};
-ghost use lib.ListN.{take};
-ghost use Rattle.split.specs.Refusal.{ageOf, badLength, undatedHead, undated, disordered, badAge, unknownKind, unlisted, wrongAge, noFactor, unstated, conditions, conditionsWith};
+ghost use Rattle.split.specs.Refusal.{ageOf, badLength, undatedHead, undated, disordered, badAge, unknownKind, unlisted, wrongAge, noFactor, unstated, conditionsWith};
 ghost use Rattle.calendar.specs.Tests.{lowest, within};
 ghost use Rattle.split.specs.Conditions.{lower, laterConditions, pensionConditions};
 
@@ -124,7 +122,7 @@ fn is_unstated(p: Pension) -> bool
 }
 
 // The lowest refusal that the head alone gives.
-fn head_refusal(head: Head, age: u32) -> u8
+pub fn head_refusal(head: Head, age: u32) -> u8
     requires { ⌜ age ≡ ageOf head ⌝ }
     ensures { λ r. ⌜ r ≡ lowest 3 (conditionsWith false head []) ⌝ }
 {
@@ -137,8 +135,8 @@ fn head_refusal(head: Head, age: u32) -> u8
     0
 }
 
-// The lowest refusal that a pension gives.
-fn pension_refusal(head: Head, age: u32, p: Pension) -> u8
+// The lowest refusal that a pension gives, rule by rule.
+fn lowest_refusal(head: Head, age: u32, p: Pension) -> u8
     requires { ⌜ age ≡ ageOf head ⌝ }
     ensures { λ r. ⌜ r ≡ lowest 3 (pensionConditions head p) ⌝ }
 {
@@ -173,8 +171,55 @@ fn terms_refusal(age: u32, p: Pension) -> u8
     0
 }
 
+// Whether the dates of a service are in order, and none of them is a 29 February.
+fn is_plain_service(head: Head, p: Pension) -> bool
+    ensures { λ r. ⌜ (r ≡ true → (undated p ≡ false) × (disordered head p ≡ false)) ⌝ }
+{
+    let service = p.service;
+    let start = service.start;
+    let end = service.end;
+    if !calendar::is_common_date(start) {
+        return false;
+    }
+    if !calendar::is_common_date(end) {
+        return false;
+    }
+    !is_disordered(head, p)
+}
+
+// Whether kind, terms, age and amount of a pension break no rule.
+fn has_plain_terms(age: u32, p: Pension) -> bool
+    ensures { λ r. ⌜ (r ≡ true → (unknownKind p ≡ false) × (lowest 7 (laterConditions age p) ≡ 0)) ⌝ }
+{
+    if is_unknown_kind(p) {
+        return false;
+    }
+    if is_unlisted(p) {
+        return false;
+    }
+    if is_wrong_age(age, p) {
+        return false;
+    }
+    if has_no_factor(age, p) {
+        return false;
+    }
+    !is_unstated(p)
+}
+
+// The lowest refusal that a pension gives. Most pensions give none, which is told without a look at leap years; only the
+// others are held to the rules one by one.
+pub fn pension_refusal(head: Head, age: u32, p: Pension) -> u8
+    requires { ⌜ age ≡ ageOf head ⌝ }
+    ensures { λ r. ⌜ r ≡ lowest 3 (pensionConditions head p) ⌝ }
+{
+    if is_plain_service(head, p) && has_plain_terms(age, p) {
+        return 0;
+    }
+    lowest_refusal(head, age, p)
+}
+
 // The lower of two refusals, of which 0 is none.
-fn lower_of(a: u8, b: u8) -> u8
+pub fn lower_of(a: u8, b: u8) -> u8
     ensures { λ r. ⌜ r ≡ lower a b ⌝ }
 {
     if a == 0 {
@@ -184,27 +229,4 @@ fn lower_of(a: u8, b: u8) -> u8
         return a;
     }
     if a <= b { a } else { b }
-}
-
-// Refusals 3 to 10 of a case with n pensions.
-pub fn case_refusal(head: Head, pensions: [Pension; 4], n: usize) -> u8
-    requires { ⌜ n ≤ 4 ⌝ }
-    ensures { λ r. ⌜ r ≡ lowest 3 (conditions head (take n pensions)) ⌝ }
-{
-    let birth = head.birth;
-    let commencement = head.commencement;
-    let age = calendar::months_between(birth, commencement);
-    let mut refusal = head_refusal(head, age);
-    let mut total: u64 = 0;
-    let mut i = 0;
-    while i < n {
-        let pension = pensions[i];
-        refusal = lower_of(refusal, pension_refusal(head, age, pension));
-        total += pension.stated.0 as u64;
-        i += 1;
-    }
-    if 50000000 < total {
-        return lower_of(refusal, 10);
-    }
-    refusal
 }

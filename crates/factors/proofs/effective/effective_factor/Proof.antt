@@ -1,27 +1,21 @@
--- `effective_factor` is the definition `effectiveFactor`, kind by kind.
-use native.Mathlib.Omega.{arith}
-use borrow.Author.Tests.{eq-eqb, ne-eqb}
-use Rattle.factors.specs.Effective.{effectiveFactor}
+-- `effective_factor` is a multiple of E, by the law of the terms with the F1 that was chosen.
+use mathlib.Core.Path.{_≡_}
+use mathlib.Core.Bool.{cond, _||_}
+use mathlib.Core.Logic.{⊎-elim}
+use lib.Dec.{eqb}
+use Rattle.factors.proofs.EffectiveLaws.{multiple-made}
 use borrow.Author.Needs.{needs}
 use Rattle.factors.proofs.effective.effective_factor.Statement.{statement}
 use Rattle.factors.proofs.effective.effective_factor.Tie as tie
 
+chosen : (c : tie.Joined1) → let s = c .before .args in c .if1 .f1 ≡ cond (eqb (s .kind) 1 || eqb (s .kind) 2) (s .t .f1) 1200
+chosen c = ⊎-elim (λ w. rw (w .0 .taken) (w .1)) (λ w. rw (w .0 .left) (w .1)) (c .if1 .came)
+
 returns : tie.Need-returns
-unfolding effectiveFactor
-returns c = simp (effectiveFactor, eq-eqb _ _ (c .before .if1 .taken))
-
-mul-t7 : tie.Need-mul-t7
-mul-t7 c = omega arith
-
-returns-2 : tie.Need-returns-2
-unfolding effectiveFactor
-returns-2 c = simp (effectiveFactor, ne-eqb _ _ (c .before .before .before .if1 .left), eq-eqb _ _ (c .before .before .if2 .taken), c .before .lump-top .ensures .0, c .lump-bottom .ensures)
-
-returns-3 : tie.Need-returns-3
-unfolding effectiveFactor
-returns-3 c = simp (effectiveFactor, ne-eqb _ _ (c .before .if1 .left), ne-eqb _ _ (c .if2 .left))
+returns c =
+    let j = c .before .before in
+    let s = j .before .args in
+    multiple-made (s .kind) (j .if1 .f1) _ _ (s .t) (chosen j) (c .before .lump-top .ensures .0) (c .lump-bottom .ensures)
 
 pub effective-factor-spec : {M : Type 1} → statement M
-effective-factor-spec =
-    tie.close
-    (tie.spec (search needs) returns (search needs) (search needs) mul-t7 returns-2 returns-3)
+effective-factor-spec = tie.close (tie.spec (search needs) (search needs) (search needs) returns)

@@ -1,17 +1,27 @@
--- `worked_pension` is the definition `workedPension`, branch by branch.
+-- `worked_pension` is the definition `workedPension`: the thousandths that the kind chooses are paid.
+use Prim.Native.Nat.{ℕ, _≤_}
+use mathlib.Core.Bool.{Bool, true, false, cond}
+use mathlib.Core.Path.{_≡_, _∙_, ap}
 use native.Mathlib.Omega.{arith}
-use Rattle.split.proofs.BenefitsLaws.{worked-early, worked-whole}
+use lib.Dec.{eqb}
+use Rattle.split.proofs.WorkingLaws.{worked-paid}
 use Rattle.split.proofs.limits.worked_pension.Statement.{statement}
 use Rattle.split.proofs.limits.worked_pension.Tie as tie
 
-returns : tie.Need-returns
-returns c =
-    worked-early _ _ _ _ _ (c .before .before .before .before .before .before .before .pre)
-    (c .before .before .before .before .if1 .taken)
-    (c .before .months-to-sixtieth-birthday .ensures) (c .reduced-pension .ensures)
+-- either way at most a thousand
+at-most : (third : Bool) (paid : ℕ) → paid ≤ 1000 → cond third paid 1000 ≤ 1000
+at-most true paid h = h
+at-most false paid h = omega arith
 
-returns-2 : tie.Need-returns-2
-returns-2 c = worked-whole _ _ _ (c .before .before .before .pre) (c .if1 .left)
+paid-part-requires : tie.Need-paid-part-requires
+paid-part-requires c κs =
+    let a = c .before .before .args in
+    rw (c .thousandths-of .ensures) (at-most (eqb (a .p .kind) 3) (a .paid) (c .before .before .pre))
+
+returns : tie.Need-returns
+returns c h e =
+    worked-paid h _ _ _ (c .before .thousandths-of .ensures ∙ ap (λ (paid : ℕ). cond (eqb (c .before .before .before .args .p .kind) 3) paid 1000) e)
+    (c .paid-part .ensures)
 
 pub worked-pension-spec : {M : Type 1} → statement M
-worked-pension-spec = tie.close (tie.spec (λ c. omega arith) (λ c. omega arith) returns returns-2)
+worked-pension-spec = tie.close (tie.spec (λ c κs. omega arith) paid-part-requires returns)

@@ -1,31 +1,19 @@
--- `pension_refusal`: the first test that passes is the lowest condition; those after the kind are the callee's.
+-- `pension_refusal`: where the tests that come first pass, no condition holds; else it is the callee's.
 use mathlib.Core.Path.{sym, _∙_}
-use native.Mathlib.Omega.{arith}
 use Rattle.split.proofs.ConditionsLaws.{pension-lowest}
 use Rattle.split.proofs.refusal.pension_refusal.Statement.{statement}
 use Rattle.split.proofs.refusal.pension_refusal.Tie as tie
 
 returns : tie.Need-returns
 returns c =
-    let s = c .before .before in
-    sym (pension-lowest (s .args .head) (s .args .p) (s .args .age) (s .pre) ∙ simp (← c .before .is-undated .ensures, c .if1 .taken))
-
-returns-2 : tie.Need-returns-2
-returns-2 c =
-    let s = c .before .before .before .before in
-    sym (pension-lowest (s .args .head) (s .args .p) (s .args .age) (s .pre) ∙ simp (← c .before .before .before .is-undated .ensures, c .before .before .if1 .left, ← c .before .is-disordered .ensures, c .if2 .taken))
-
-returns-3 : tie.Need-returns-3
-returns-3 c =
-    let s = c .before .before .before .before .before .before in
-    sym (pension-lowest (s .args .head) (s .args .p) (s .args .age) (s .pre) ∙ simp (← c .before .before .before .before .before .is-undated .ensures, c .before .before .before .before .if1 .left, ← c .before .before .before .is-disordered .ensures, c .before .before .if2 .left, ← c .before .is-unknown-kind .ensures, c .if3 .taken))
-
-returns-4 : tie.Need-returns-4
-returns-4 c =
-    let s = c .before .before .before .before .before .before .before in
-    sym (pension-lowest (s .args .head) (s .args .p) (s .args .age) (s .pre) ∙ simp (← c .before .before .before .before .before .before .is-undated .ensures, c .before .before .before .before .before .if1 .left, ← c .before .before .before .before .is-disordered .ensures, c .before .before .before .if2 .left, ← c .before .before .is-unknown-kind .ensures, c .before .if3 .left, c .terms-refusal .ensures))
+    let terms = c .before in
+    let service = terms .before .before in
+    let s = service .before in
+    let dates = service .is-plain-service .ensures (terms .before .if1 .taken) in
+    let later = terms .has-plain-terms .ensures (c .if2 .taken) in
+    sym (pension-lowest (s .args .head) (s .args .p) (s .args .age) (s .pre) ∙ simp (dates .0, dates .1, later .0, later .1))
 
 pub pension-refusal-spec : {M : Type 1} → statement M
 pension-refusal-spec =
     tie.close
-    (tie.spec (λ c. omega arith) returns (λ c. omega arith) returns-2 (λ c. omega arith) returns-3 (λ c. omega arith) returns-4)
+    (tie.spec (λ c κs. tt) (λ c κs. tt) returns (λ c κs. c .before .before .pre) (λ c. c .lowest-refusal .ensures))

@@ -1,0 +1,92 @@
+-- The quote that the code makes of the figures of a case is the quote of the case: turns over prices and caps that columns hold
+-- are its grant, and the refusal or the grant is that of every line that the pensions were read from. Assumes nothing.
+use Prim.Native.Nat.{ℕ, _*_, _≤_, _<_}
+use mathlib.Core.Bool.{true}
+use mathlib.Core.List.{List, [], _∷_, map}
+use mathlib.Core.Path.{_≡_, refl, sym, _∙_, ap}
+use native.Mathlib.Nat.{le-refl}
+use native.Mathlib.Omega.{arith}
+use lib.ListN.{length, getD, take, replicate, length-map}
+use lib.Seq.{take-all}
+use borrow.Author.Tests.{eq-eqb, ne-eqb}
+use Rattle.factors.specs.declared.money.LumpPence.{LumpPence}
+use Rattle.split.specs.declared.case.Head.{Head}
+use Rattle.split.specs.declared.case.Pension.{Pension}
+use Rattle.split.specs.declared.limits.Benefit.{Benefit}
+use Rattle.split.specs.declared.answers.Share.{Share}
+use Rattle.split.specs.declared.answers.Quote.{Quote}
+use Rattle.split.specs.Case.{noPension, pensionsAt, caseLength}
+use Rattle.split.specs.Bytes.{FieldOf}
+use Rattle.split.specs.Refusal.{ageOf}
+use Rattle.split.specs.Benefits.{workedPension, factorOf, benefitOf, benefitsOf}
+use Rattle.split.specs.Limits.{noBenefit, total, totalPension, priceOf, pricedLimit}
+use Rattle.split.specs.Grant.{rowOf, turns, lumpsOf, grant}
+use Rattle.split.specs.Arrays.{rowsIn}
+use Rattle.split.specs.Quote.{sharesOf, padded, lumpsGranted, grantedQuote, refusedQuote}
+use Rattle.split.specs.Working.{Columns, FourPlaces, Holds, WorkedOut, sharesIn, caseQuote}
+use Rattle.split.proofs.ListLoop.{map-at}
+use Rattle.split.proofs.Prices.{price-floor}
+use Rattle.split.proofs.ArraysLaws.{rows-start}
+use Rattle.split.proofs.GrantLoop.{grant-made}
+use Rattle.split.proofs.WorkingLaws.{cap-held, price-held, shares-held}
+
+-- the pensions that a column holds, together
+worked-total : (h : Head) (ps : List Pension) → total (map (workedPension h) ps) ≡ totalPension (benefitsOf h ps)
+unfolding benefitOf
+worked-total h [] = refl
+worked-total h (p ∷ ps) = omega (arith, worked-total h ps)
+
+module _ (h : Head) (ps : List Pension) (c : Columns) (n : ℕ) (held : Holds h ps c) (four : FourPlaces c) (counted : length ps ≡ n)
+    (few : n ≤ 4) where
+  pub pensions-summed : total (take n (c .pensions)) ≡ totalPension (benefitsOf h ps)
+  pensions-summed = rw (← counted, held .pensions) (worked-total h ps)
+
+  -- a price is above 0
+  pub price-positive : (j : ℕ) → j < n → 0 < getD (c .prices) j 0
+  price-positive j place =
+      rw (price-held h ps c held j (rw counted place)) (omega (arith, price-floor (factorOf (ageOf h) (getD ps j noPension))))
+
+  rows : take n (rowsIn (c .prices) (c .caps) (replicate 4 0) (replicate 4 true)) ≡ map rowOf (benefitsOf h ps)
+  unfolding benefitOf
+  rows =
+      let bs = benefitsOf h ps in
+      let same : length bs ≡ length ps = length-map ps (benefitOf h) in
+      let at : (j : ℕ) → j < length bs → getD bs j noBenefit ≡ benefitOf h (getD ps j noPension) =
+      λ j place. map-at (benefitOf h) ps j noPension noBenefit (rw same at place)
+      in
+      rw (← counted, ← same)
+      (rows-start (c .prices) (c .caps) bs 4 (four .prices) (four .caps) (omega arith)
+      (λ j place. price-held h ps c held j (rw same at place) ∙ sym (ap (λ (b : Benefit). priceOf (b .factor)) (at j place)))
+      (λ j place. cap-held h ps c held j (rw same at place) ∙ sym (ap (λ (b : Benefit). b .cap .0) (at j place))))
+
+  -- as many turns as there are pensions are the grant
+  pub grant-worked : (limit sum : ℕ) (lumps : List ℕ) → sum ≡ total (take n (c .pensions)) → limit ≡ 20000000000 * sum
+      → lumps ≡ lumpsOf (turns n (take n (rowsIn (c .prices) (c .caps) (replicate 4 0) (replicate 4 true))) limit)
+      → lumps ≡ grant (benefitsOf h ps)
+  grant-worked limit sum lumps summed limited given =
+      grant-made (benefitsOf h ps) n limit _ lumps (length-map ps (benefitOf h) ∙ counted) rows
+      (limited ∙ ap (λ (t : ℕ). 20000000000 * t) (summed ∙ pensions-summed)) given
+
+  -- the figures made one after the other are those of the grant
+  pub quote-made : (lumps : List ℕ) (sum : LumpPence) (shares : List Share) → length lumps ≡ 4 → take n lumps ≡ grant (benefitsOf h ps)
+      → sum .0 ≡ total (take n lumps) → shares ≡ padded (sharesIn (c .pensions) (c .tops) (c .bottoms) (c .increases) lumps n)
+      → _≡_ {A = Quote} (record { refusal = 0; member = h .member; total = sum; shares = shares }) (grantedQuote h ps)
+  unfolding grantedQuote lumpsGranted
+  quote-made lumps sum shares places granted summed shared =
+      let all : take n ps ≡ ps = take-all n ps (omega arith) in
+      let made : shares ≡ padded (sharesOf h ps (grant (benefitsOf h ps))) =
+      rw (shares-held h ps c lumps held n (omega arith) (omega arith), all, granted) at shared
+      in
+      λ i. record { refusal = 0; member = h .member; total = record { 0 = (summed ∙ ap total granted) i }; shares = made i }
+
+-- of every line that the pensions were read from
+module _ {h : Head} {b : List ℕ} {n refused : ℕ} {c : Columns} (w : WorkedOut h b n refused c) (q : Quote) where
+  pub case-refused : (refused ≡ 0 → ⊥) → q ≡ refusedQuote refused → FieldOf b (caseLength n) q (λ s. caseQuote h (pensionsAt s n))
+  unfolding caseQuote
+  case-refused some made s bytes within =
+      made ∙ rw (← w .read s bytes within, ← w .judged) (simp (ne-eqb refused 0 some))
+
+  pub case-granted : refused ≡ 0 → q ≡ grantedQuote h (w .pensions) → FieldOf b (caseLength n) q (λ s. caseQuote h (pensionsAt s n))
+  unfolding caseQuote
+  case-granted none made s bytes within =
+      made ∙ rw (← w .read s bytes within, ← w .judged) (simp (eq-eqb refused 0 none))

@@ -1,0 +1,14 @@
+-- `thousandths_of` chooses by the kind.
+use mathlib.Core.Path.{_≡_, sym}
+use borrow.Author.Tests.{eq-eqb, ne-eqb}
+use Rattle.split.proofs.limits.thousandths_of.Statement.{statement}
+use Rattle.split.proofs.limits.thousandths_of.Tie as tie
+
+returns : tie.Need-returns
+returns c = simp (eq-eqb _ _ (c .if1 .taken))
+
+returns-2 : tie.Need-returns-2
+returns-2 c = simp (ne-eqb _ _ (c .if1 .left))
+
+pub thousandths-of-spec : {M : Type 1} → statement M
+thousandths-of-spec = tie.close (tie.spec returns returns-2)
