@@ -3,11 +3,11 @@
 use Prim.Native.Nat.{ℕ, _+_, _≤_, _<_}
 use mathlib.Core.Bool.{Bool}
 use mathlib.Core.List.{List, map}
-use mathlib.Core.Path.{_≡_, refl, sym, _∙_, ap}
+use mathlib.Core.Path.{_≡_, sym, _∙_, ap}
 use native.Mathlib.Omega.{arith}
 use lib.ListN.{length, getD, take, drop, set, length-set}
 use lib.Seq.{take-all}
-use Rattle.split.proofs.ListLoop.{map-stored}
+use Rattle.split.proofs.ListLoop.{map-more, take-next}
 use Rattle.register.specs.declared.answers.Located.{Located}
 use Rattle.register.specs.Layout.{Register, lineLayout}
 use Rattle.register.specs.Find.{findLine, locate}
@@ -25,7 +25,9 @@ module _ {A : Type 0} {f : A → ℕ} {xs : List A} {figures : List ℕ} {i : �
   pub filled-more : (d : A) → i < 4 → Filled f xs (set figures i (f (getD xs i d))) (i + 1)
   filled-more d h = record {
     size = simp length-set (filled .size);
-    part = map-stored f xs figures i d (f (getD xs i d)) (omega arith) (omega (arith, filled .size)) (filled .part) refl;
+    part =
+        rw (take-next xs i d (omega arith))
+        (map-more f (take i xs) figures i (getD xs i d) (omega (arith, filled .size)) (filled .part));
   }
 
   pub filled-all : i ≤ 4 → 4 ≤ i → figures ≡ map f xs

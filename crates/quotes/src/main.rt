@@ -17,6 +17,13 @@ const KEPT: usize = LONGEST + 1;
 // larger block spends less on checks.
 const INPUT_LENGTH: usize = 262144;
 
+// A zero for each byte of a block.
+fn block_buffer() -> [u8; INPUT_LENGTH]
+    ensures { λ r. ⌜ length r ≡ inputLength ⌝ }
+{
+    [0u8; INPUT_LENGTH]
+}
+
 // Where a run stands: the register's used length, how many characters of a line without its end are kept at the input's
 // start, how many bytes of output wait to be written, whether a write failed, and whether the input has ended.
 struct Progress {
@@ -253,9 +260,9 @@ fn finish(
 }
 
 fn main() {
-    let mut input = [0u8; INPUT_LENGTH];
+    let mut input = block_buffer();
     let mut register = io::large_buffer();
-    let mut refusals = [0u8; INPUT_LENGTH];
+    let mut refusals = block_buffer();
     let mut output = io::large_buffer();
     let start = Progress {
         used: 0,

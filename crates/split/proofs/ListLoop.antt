@@ -25,12 +25,16 @@ pub take-next : {A : Type 0} (l : List A) (i : ℕ) (d : A) → i < length l →
 take-next l i d h = rw add-one (take-suc l i d h)
 
 -- what is made of one more element and stored behind the filled part makes that part one longer
-pub map-stored : {A B : Type 0} (f : A → B) (xs : List A) (ys : List B) (i : ℕ) (x : A) (y : B) → length xs ≡ i
-    → i < length ys → take (length xs) ys ≡ map f xs → y ≡ f x
-    → take (length (xs ++ (x ∷ []))) (set ys i y) ≡ map f (xs ++ (x ∷ []))
-map-stored f xs ys i x y counted g t e =
+pub map-more : {A B : Type 0} (f : A → B) (xs : List A) (ys : List B) (i : ℕ) (x : A) → i < length ys → take i ys ≡ map f xs
+    → take (i + 1) (set ys i (f x)) ≡ map f (xs ++ (x ∷ []))
+map-more f xs ys i x h t = rw (take-set-more ys i (f x) h, t) (sym (map-append f xs (x ∷ [])))
+
+-- also said by how many elements there are
+pub map-stored : {A B : Type 0} (f : A → B) (xs : List A) (ys : List B) (i : ℕ) (x : A) → length xs ≡ i → i < length ys
+    → take (length xs) ys ≡ map f xs → take (length (xs ++ (x ∷ []))) (set ys i (f x)) ≡ map f (xs ++ (x ∷ []))
+map-stored f xs ys i x counted h t =
     let more : length (xs ++ (x ∷ [])) ≡ i + 1 = omega (arith, length-append xs (x ∷ [])) in
-    rw (more, take-set-more ys i y g, e, ← counted, t) (sym (map-append f xs (x ∷ [])))
+    rw more (map-more f xs ys i x h (rw counted at t))
 
 -- and what is stored at a place of it is made of that element
 pub map-at : {A B : Type 0} (f : A → B) (l : List A) (j : ℕ) (d : A) (e : B) → j < length l → getD (map f l) j e ≡ f (getD l j d)

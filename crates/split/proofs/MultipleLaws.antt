@@ -28,6 +28,4 @@ rounded-multiple m x y p q =
 
 pub price-multiple : (m : ℕ) (e : Factor) → 0 < m → 0 < e .top → priceOf (multiple m e) ≡ priceOf e
 unfolding priceOf multiple
-price-multiple m e p q =
-    rw (mul-left-comm 20000000000 m)
-    (ap (λ (n : ℕ). 3000000000 + n) (rounded-multiple m (20000000000 * e .bottom) (e .top) p q))
+price-multiple m e p q = rw (mul-left-comm 20000000000 m, rounded-multiple m (20000000000 * e .bottom) (e .top) p q)

@@ -185,16 +185,14 @@ pub holds-stored : (h : Head) (ps : List Pension) (p : Pension) (i : ℕ) (c : C
     → Holds h ps c → Holds h (ps ++ (p ∷ [])) (stored h p i c)
 holds-stored h ps p i c four counted place held =
     record {
-      pensions = map-stored (workedPension h) ps (c .pensions) i p _ counted (rw (four .pensions) place) (held .pensions) refl;
-      tops = map-stored (λ (q : Pension). multipleFactor h q .top) ps (c .tops) i p _ counted (rw (four .tops) place) (held .tops) refl;
+      pensions = map-stored (workedPension h) ps (c .pensions) i p counted (rw (four .pensions) place) (held .pensions);
+      tops = map-stored (λ (q : Pension). multipleFactor h q .top) ps (c .tops) i p counted (rw (four .tops) place) (held .tops);
       bottoms =
-          map-stored (λ (q : Pension). multipleFactor h q .bottom) ps (c .bottoms) i p _ counted (rw (four .bottoms) place)
-          (held .bottoms) refl;
-      caps = map-stored (λ (q : Pension). benefitOf h q .cap .0) ps (c .caps) i p _ counted (rw (four .caps) place) (held .caps) refl;
+          map-stored (λ (q : Pension). multipleFactor h q .bottom) ps (c .bottoms) i p counted (rw (four .bottoms) place) (held .bottoms);
+      caps = map-stored (λ (q : Pension). benefitOf h q .cap .0) ps (c .caps) i p counted (rw (four .caps) place) (held .caps);
       prices =
-          map-stored (λ (q : Pension). priceOf (factorOf (ageOf h) q)) ps (c .prices) i p _ counted (rw (four .prices) place)
-          (held .prices) refl;
-      increases = map-stored increaseOf ps (c .increases) i p _ counted (rw (four .increases) place) (held .increases) refl;
+          map-stored (λ (q : Pension). priceOf (factorOf (ageOf h) q)) ps (c .prices) i p counted (rw (four .prices) place) (held .prices);
+      increases = map-stored increaseOf ps (c .increases) i p counted (rw (four .increases) place) (held .increases);
     }
 
 -- what columns hold at a place
