@@ -1,33 +1,18 @@
--- Laws of a pension as the limits see it: it, its factor and its cap as the code works them out are those of the
--- definitions, a cap is at most a quarter's lump, which is at most twenty pensions, and each pension is at its place.
--- Assumes nothing.
-use Prim.Native.Nat.{ℕ, _*_, _/_, _≤_, _<_, min}
-use mathlib.Core.Bool.{Bool, true, false, cond, _&&_}
-use mathlib.Core.List.{List}
-use mathlib.Core.Path.{_≡_, refl, sym, _∙_, ap}
+-- Laws of a pension as the limits see it: a cap is at most a quarter's lump, which is at most twenty pensions, and the cap and
+-- the terms that the code chooses are those of the definitions. Assumes nothing.
+use Prim.Native.Nat.{ℕ, _*_, _/_, _≤_, min}
+use mathlib.Core.Bool.{Bool, true, false, cond}
+use mathlib.Core.Path.{_≡_, sym, _∙_}
 use native.Mathlib.Nat.{div-le-of-le-mul, mul-le-mul-left}
 use native.Mathlib.Omega.{arith}
-use lib.Dec.{eqb, ltb}
 use borrow.Author.Tests.{eq-eqb, ne-eqb}
-use lib.ListN.{length, getD, take}
-use Rattle.calendar.specs.Calendar.{months, sixtiethBirthday}
 use Rattle.factors.specs.declared.effective.FactorTerms.{FactorTerms}
-use Rattle.factors.specs.declared.money.LumpPence.{LumpPence}
-use Rattle.factors.specs.declared.money.YearlyPence.{YearlyPence}
 use Rattle.factors.specs.declared.effective.Factor.{Factor}
-use Rattle.factors.specs.Effective.{FactorRange, effectiveFactor}
-use Rattle.factors.specs.EarlyPayment.{reducedPension}
+use Rattle.factors.specs.Effective.{FactorRange}
 use Rattle.factors.specs.Commutation.{table1, commutationFactor}
 use Rattle.factors.proofs.CommutationLaws.{looked-up, as-given}
-use Rattle.split.specs.declared.case.Head.{Head}
-use Rattle.split.specs.declared.case.Pension.{Pension}
-use Rattle.split.specs.declared.limits.Benefit.{Benefit}
-use Rattle.split.specs.Case.{noPension}
-use Rattle.split.specs.Refusal.{ageOf}
-use Rattle.split.specs.Benefits.{workedPension, factorOf, limitedLump, quarterLump, benefitOf, benefitsOf, workedTerms, capOf}
-use Rattle.split.specs.Limits.{noBenefit}
+use Rattle.split.specs.Benefits.{quarterLump, workedTerms, capOf}
 use Rattle.split.proofs.Prices.{ring}
-use Rattle.split.proofs.ListLoop.{stored-at}
 
 -- a quarter's lump is at most twenty pensions
 pub quarter-at-most : (pension : ℕ) (e : Factor) → FactorRange e → quarterLump pension e ≤ 20 * pension
@@ -62,9 +47,3 @@ unfolding workedTerms
 terms-given age t some =
     let f1 : t .f1 ≡ commutationFactor (t .f1) age = sym (as-given (t .f1) age (ne-eqb (t .f1) 0 some)) in
     λ i. record { f1 = f1 i; f2 = t .f2; f3 = t .f3; increase = t .increase }
-
--- the factor of worked terms
-pub factor-made : (age : ℕ) (p : Pension) (t : FactorTerms) (e : Factor) → t ≡ workedTerms age (p .terms)
-    → e ≡ effectiveFactor (p .kind) t → e ≡ factorOf age p
-unfolding factorOf
-factor-made age p t e x y = y ∙ ap (effectiveFactor (p .kind)) x

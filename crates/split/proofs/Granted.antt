@@ -4,7 +4,6 @@ use Prim.Native.Nat.{ℕ, _*_, _≤_, _<_}
 use mathlib.Core.Bool.{true}
 use mathlib.Core.List.{List, [], _∷_, map}
 use mathlib.Core.Path.{_≡_, refl, sym, _∙_, ap}
-use native.Mathlib.Nat.{le-refl}
 use native.Mathlib.Omega.{arith}
 use lib.ListN.{length, getD, take, replicate, length-map}
 use lib.Seq.{take-all}
@@ -19,7 +18,7 @@ use Rattle.split.specs.Case.{noPension, pensionsAt, caseLength}
 use Rattle.split.specs.Bytes.{FieldOf}
 use Rattle.split.specs.Refusal.{ageOf}
 use Rattle.split.specs.Benefits.{workedPension, factorOf, benefitOf, benefitsOf}
-use Rattle.split.specs.Limits.{noBenefit, total, totalPension, priceOf, pricedLimit}
+use Rattle.split.specs.Limits.{noBenefit, total, totalPension, priceOf}
 use Rattle.split.specs.Grant.{rowOf, turns, lumpsOf, grant}
 use Rattle.split.specs.Arrays.{rowsIn}
 use Rattle.split.specs.Quote.{sharesOf, padded, lumpsGranted, grantedQuote, refusedQuote}

@@ -1,7 +1,7 @@
 -- A factor whose top and bottom are multiplied by one number gives the same cap, price and pension given up: the code works
 -- with such a multiple, the definitions with the factor itself. Assumes nothing.
 use Prim.Native.Nat.{ℕ, _+_, _-_, _*_, _/_, _<_}
-use mathlib.Core.Path.{_≡_, ap}
+use mathlib.Core.Path.{_≡_}
 use native.Mathlib.Nat.{zero-add, mul-left-comm, mul-add, mul-sub, mul-le-mul-left, mul-div-mul-left, div-div-eq-div-mul, add-mul-div-left, div-eq-of-lt}
 use native.Mathlib.Omega.{arith}
 use Rattle.factors.specs.declared.effective.Factor.{Factor}

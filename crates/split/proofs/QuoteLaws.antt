@@ -1,7 +1,7 @@
 -- What the register cites of the split: a quote's figures fit 32 bits, its refusal is the line's, and the lumps of a grant are
 -- the best. A case that is not refused is accepted and has at most four pensions, so that every share of its grant is in
 -- range and the four places are its lumps and zeros. Assumes nothing.
-use Prim.Native.Nat.{ℕ, zero, suc, _+_, _-_, _*_, _/_, _≤_, _<_}
+use Prim.Native.Nat.{ℕ, zero, suc, _-_, _*_, _/_, _≤_, _<_}
 use mathlib.Core.Bool.{Bool, true, false, cond}
 use mathlib.Core.List.{List, [], _∷_, _++_}
 use mathlib.Core.Path.{_≡_, refl, sym, _∙_, ap}
@@ -185,9 +185,6 @@ by-refusal P s granting refusing =
 refused-as : (s : List ℕ) (r : ℕ) → (r ≡ 0 → ⊥) → refusalOf s ≡ r → refusedQuote r ≡ quoteOf s
 refused-as s r some e =
     by-refusal (λ q. refusedQuote r ≡ q) s (λ z. absurd (some (sym e ∙ z))) (λ ne. ap refusedQuote (sym e))
-
-granted-as : (s : List ℕ) → refusalOf s ≡ 0 → grantedQuote (headOf s) (pensionsOf s) ≡ quoteOf s
-granted-as s e = by-refusal (λ q. grantedQuote (headOf s) (pensionsOf s) ≡ q) s (λ z. refl) (λ ne. absurd (ne e))
 
 -- the refusal of a quote is the line's
 pub quote-refusal : (s : List ℕ) → quoteOf s .refusal ≡ refusalOf s

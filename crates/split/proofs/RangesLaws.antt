@@ -3,21 +3,20 @@
 use Prim.Native.Nat.{ℕ, _*_, _/_, _≤_, _<_}
 use mathlib.Core.Bool.{Bool, true, false, cond}
 use mathlib.Core.List.{List}
-use mathlib.Core.Path.{_≡_, refl}
+use mathlib.Core.Path.{_≡_}
 use native.Mathlib.Nat.{div-le-of-le-mul, le-div-iff-mul-le}
 use native.Mathlib.Omega.{arith}
 use lib.Dec.{eqb}
 use lib.ListN.{length, getD, take, length-map}
 use lib.Seq.{getD-take}
 use Rattle.calendar.proofs.SumsLaws.{sum-at}
-use Rattle.factors.specs.Effective.{FactorRange}
 use Rattle.split.specs.declared.case.Head.{Head}
 use Rattle.split.specs.declared.case.Pension.{Pension}
 use Rattle.split.specs.declared.limits.Benefit.{Benefit}
 use Rattle.split.specs.Case.{noPension}
 use Rattle.split.specs.Refusal.{ageOf, unlisted}
 use Rattle.split.specs.Benefits.{workedPension, factorOf, limitedLump, quarterLump, benefitOf, benefitsOf}
-use Rattle.split.specs.Limits.{noBenefit, total, totalCap, WithinCaps}
+use Rattle.split.specs.Limits.{noBenefit, total, WithinCaps}
 use Rattle.split.specs.Grant.{grant}
 use Rattle.split.specs.Ranges.{ShareRange, SharesRange}
 use Rattle.split.specs.Working.{multipleFactor, increaseOf, Columns, FourPlaces, Holds}
@@ -93,8 +92,9 @@ module _ (h : Head) (ps : List Pension) (a : Accepted h ps) (xs : List ℕ) (gra
 -- whose figures columns hold, and whose lumps are the first of four
 pub shares-range : (h : Head) (ps : List Pension) (c : Columns) (lumps : List ℕ) (n : ℕ) → Accepted h ps → Holds h ps c → FourPlaces c
     → length ps ≡ n → n ≤ 4 → length lumps ≡ 4 → take n lumps ≡ grant (benefitsOf h ps)
+    → ((j : ℕ) → n ≤ j → j < 4 → getD lumps j 0 ≡ 0)
     → SharesRange (c .pensions) (c .tops) (c .bottoms) (c .increases) lumps n
-shares-range h ps c lumps n a held four counted few places granted =
+shares-range h ps c lumps n a held four counted few places granted none =
     record {
       places = few;
       pensions = four .pensions;
@@ -109,4 +109,5 @@ shares-range h ps c lumps n a held four counted few places granted =
       small = λ j place.
           let inside : j < length ps = rw counted place in
           rw (increase-held h ps c held j inside) (second-small (getD ps j noPension) (a .each j inside .listed));
+      rest = none;
     }

@@ -1,7 +1,7 @@
 -- Laws of the figures as the code works them out: they are those of the definitions, since a multiple of a factor gives the
 -- same cap, price and pension given up; a pension's figures stored behind others are held with them; and the shares made of
 -- columns are those of the pensions that the columns hold. Assumes nothing.
-use Prim.Native.Nat.{ℕ, zero, suc, _+_, _*_, _/_, _≤_, _<_}
+use Prim.Native.Nat.{ℕ, zero, suc, _*_, _/_, _≤_, _<_}
 use mathlib.Core.Bool.{Bool, true, false, cond, _&&_}
 use mathlib.Core.List.{List, [], _∷_, _++_}
 use mathlib.Core.Path.{_≡_, refl, sym, _∙_, ap}
@@ -28,10 +28,10 @@ use Rattle.split.specs.declared.limits.Basis.{Basis}
 use Rattle.split.specs.declared.limits.Benefit.{Benefit}
 use Rattle.split.specs.Case.{noPension}
 use Rattle.split.specs.Refusal.{ageOf, unlisted}
-use Rattle.split.specs.Benefits.{workedPension, factorOf, workedTerms, limitedLump, quarterLump, capOf, benefitOf}
+use Rattle.split.specs.Benefits.{workedPension, factorOf, workedTerms, limitedLump, capOf, benefitOf}
 use Rattle.split.specs.Limits.{priceOf}
 use Rattle.split.specs.Quote.{remainingOf, secondOf, shareOf, sharesOf}
-use Rattle.split.specs.Working.{paidThousandths, basisOf, multipleFactor, multipleBenefit, increaseOf, Columns, columns, FourPlaces, stored, Holds, shareIn, factorIn, sharesIn}
+use Rattle.split.specs.Working.{paidThousandths, basisOf, multipleFactor, multipleBenefit, increaseOf, Columns, columns, FourPlaces, stored, Holds, shareIn, factorIn, placed, sharesIn}
 use Rattle.split.proofs.ListLoop.{map-stored, stored-at, take-next}
 use Rattle.split.proofs.MultipleLaws.{quarter-multiple, price-multiple, given-up-multiple}
 use Rattle.split.proofs.Accepted.{increase-none}
@@ -223,7 +223,7 @@ module _ (h : Head) (ps : List Pension) (c : Columns) (held : Holds h ps c) (j :
 -- the shares made of columns
 pub shares-held : (h : Head) (ps : List Pension) (c : Columns) (xs : List ℕ) → Holds h ps c → (k : ℕ) → k ≤ length ps → k ≤ length xs
     → sharesIn (c .pensions) (c .tops) (c .bottoms) (c .increases) xs k ≡ sharesOf h (take k ps) (take k xs)
-unfolding sharesIn
+unfolding placed
 shares-held h ps c xs held zero few lumps = refl
 shares-held h ps c xs held (suc k) few lumps =
     let p = getD ps k noPension in

@@ -24,3 +24,4 @@ pub record SharesRange (ps ts bs is xs : List ℕ) (n : ℕ) : Type 0 where
   pub lumps : length xs ≡ 4
   pub ranges : (j : ℕ) → j < n → ShareRange (getD ps j 0) (factorIn ts bs j) (getD xs j 0)
   pub small : (j : ℕ) → j < n → getD is j 0 ≤ 10000
+  pub rest : (j : ℕ) → n ≤ j → j < 4 → getD xs j 0 ≡ 0

@@ -1,6 +1,6 @@
 -- The figures of the pensions of a case as the code works them out, in a column of numbers for each figure, for the
 -- contracts of private functions: the code can lend no array of structs. Nothing here has to be believed. Assumes nothing.
-use Prim.Native.Nat.{ℕ, zero, suc, _-_, _*_, _/_, _≤_}
+use Prim.Native.Nat.{ℕ, zero, suc, _-_, _*_, _/_, _≤_, _<_}
 use mathlib.Core.Bool.{cond}
 use mathlib.Core.List.{List, [], _∷_, _++_, map}
 use mathlib.Core.Path.{_≡_}
@@ -120,11 +120,37 @@ shareIn pension e increase lump =
 abbrev pub factorIn : List ℕ → List ℕ → ℕ → Factor
 factorIn ts bs j = record { top = getD ts j 0; bottom = getD bs j 0 }
 
--- the shares of the first n pensions
-unfoldable pub sharesIn : List ℕ → List ℕ → List ℕ → List ℕ → List ℕ → ℕ → List Share
-sharesIn ps ts bs is xs zero = []
-sharesIn ps ts bs is xs (suc k) =
-    sharesIn ps ts bs is xs k ++ (shareIn (getD ps k 0) (factorIn ts bs k) (getD is k 0) (getD xs k 0) ∷ [])
+-- what a function gives at the first n places
+unfoldable pub placed : {A : Type 0} → (ℕ → A) → ℕ → List A
+placed f zero = []
+placed f (suc k) = placed f k ++ (f k ∷ [])
+
+-- the shares of the first n pensions by their columns and lumps
+abbrev pub sharesIn : List ℕ → List ℕ → List ℕ → List ℕ → List ℕ → ℕ → List Share
+sharesIn ps ts bs is xs n =
+    placed (λ (k : ℕ). shareIn (getD ps k 0) (factorIn ts bs k) (getD is k 0) (getD xs k 0)) n
+
+-- what remains of a pension, and its second instalment, by columns and lumps
+abbrev pub remainingIn : List ℕ → List ℕ → List ℕ → List ℕ → ℕ → ℕ
+remainingIn ps ts bs xs j = getD ps j 0 - getD xs j 0 * getD bs j 0 / getD ts j 0
+
+abbrev pub secondIn : List ℕ → List ℕ → ℕ → ℕ
+secondIn is xs j = getD xs j 0 * getD is j 0 / 10000
+
+-- a column of four places holds what a function gives in the first n, and zeros in the others
+pub record FilledBy (f : ℕ → ℕ) (n : ℕ) (xs : List ℕ) : Type 0 where
+  pub size : length xs ≡ 4
+  pub made : (j : ℕ) → j < n → getD xs j 0 ≡ f j
+  pub rest : (j : ℕ) → n ≤ j → j < 4 → getD xs j 0 ≡ 0
+
+-- the share at a place of three columns
+abbrev pub shareFrom : List ℕ → List ℕ → List ℕ → ℕ → Share
+shareFrom xs rs ss j =
+    record {
+      lump = record { 0 = getD xs j 0 };
+      remaining = record { 0 = getD rs j 0 };
+      second = record { 0 = getD ss j 0 };
+    }
 
 -- the quote of a case
 unfoldable pub caseQuote : Head → List Pension → Quote

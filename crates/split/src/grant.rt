@@ -51,7 +51,7 @@ fn most_of(cap: LumpPence, price: u64, left: u64) -> LumpPence
 // The first n pensions have their turns one after the other, and are given their lumps.
 pub fn take_turns(prices: &[u64; 4], caps: &[u32; 4], n: usize, limit: u64, lumps: &mut [u32; 4])
     requires { ⌜ (n ≤ 4) × (length (now prices) ≡ 4) × (length (now caps) ≡ 4) × ((j : ℕ) → j < n → 0 < getD (now prices) j 0) × (now lumps ≡ replicate 4 0) ⌝ }
-    ensures { λ _. ⌜ (take n (now (lumps .exit)) ≡ lumpsOf (turns n (take n (rowsIn (now (prices .entry)) (now (caps .entry)) (replicate 4 0) (replicate 4 true))) limit)) × (length (now (lumps .exit)) ≡ 4) ⌝ }
+    ensures { λ _. ⌜ (take n (now (lumps .exit)) ≡ lumpsOf (turns n (take n (rowsIn (now (prices .entry)) (now (caps .entry)) (replicate 4 0) (replicate 4 true))) limit)) × (length (now (lumps .exit)) ≡ 4) × ((j : ℕ) → n ≤ j → j < 4 → getD (now (lumps .exit)) j 0 ≡ 0) ⌝ }
 {
     let mut waiting = [true; 4];
     let mut left = limit;

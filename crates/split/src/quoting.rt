@@ -11,12 +11,12 @@ use factors::money::LumpPence;
 use factors::money::YearlyPence;
 ghost use mathlib.Core.Path.{_≡_};
 ghost use Prim.Native.Nat.{_-_, _*_, _/_, _≤_};
-ghost use lib.ListN.{length, take};
+ghost use lib.ListN.{length, take, replicate};
 ghost use Rattle.split.specs.Case.{pensionsAt, headLength, caseLength};
 ghost use Rattle.split.specs.Bytes.{FieldOf};
 ghost use Rattle.split.specs.Limits.{total};
 ghost use Rattle.split.specs.Quote.{padded, noShare, refusedQuote};
-ghost use Rattle.split.specs.Working.{shareIn, sharesIn, caseQuote};
+ghost use Rattle.split.specs.Working.{placed, sharesIn, remainingIn, secondIn, FilledBy, shareFrom, caseQuote};
 ghost use Rattle.split.specs.Ranges.{ShareRange, SharesRange};
 
 fn no_share() -> Share
@@ -46,17 +46,53 @@ fn second_of(increase: u16, lump: LumpPence) -> LumpPence
     LumpPence((lump.0 as u64 * increase as u64 / 10000) as u32)
 }
 
-fn share_of(pension: YearlyPence, e: Factor, increase: u16, lump: LumpPence) -> Share
-    requires { ⌜ ShareRange (pension .0) e (lump .0) × (increase ≤ 10000) ⌝ }
-    ensures { λ r. ⌜ r ≡ shareIn (pension .0) e increase (lump .0) ⌝ }
+// Takes the lumps of the first n pensions off them: what remains of each, and its second instalment.
+fn take_off(
+    pensions: &[u32; 4],
+    tops: &[u64; 4],
+    bottoms: &[u64; 4],
+    increases: &[u16; 4],
+    lumps: &[u32; 4],
+    n: usize,
+    remaining: &mut [u32; 4],
+    seconds: &mut [u32; 4],
+)
+    requires { ⌜ SharesRange (now pensions) (now tops) (now bottoms) (now increases) (now lumps) n × (now remaining ≡ replicate 4 0) × (now seconds ≡ replicate 4 0) ⌝ }
+    ensures { λ _. ⌜ FilledBy (remainingIn (now (pensions .entry)) (now (tops .entry)) (now (bottoms .entry)) (now (lumps .entry))) n (now (remaining .exit)) × FilledBy (secondIn (now (increases .entry)) (now (lumps .entry))) n (now (seconds .exit)) ⌝ }
 {
-    let remaining = remaining_of(pension, e, lump);
-    let second = second_of(increase, lump);
-    Share {
-        lump,
-        remaining,
-        second,
+    let mut i = 0;
+    while i < n {
+        let factor = Factor {
+            top: tops[i],
+            bottom: bottoms[i],
+        };
+        let lump = LumpPence(lumps[i]);
+        let left = remaining_of(YearlyPence(pensions[i]), factor, lump);
+        let second = second_of(increases[i], lump);
+        remaining[i] = left.0;
+        seconds[i] = second.0;
+        i += 1;
     }
+}
+
+// The shares at four places, of which those without a pension are zeros. The loop's length is fixed, so that the compiler
+// makes them at once.
+fn shares_at(lumps: &[u32; 4], remaining: &[u32; 4], seconds: &[u32; 4]) -> [Share; 4]
+    requires { ⌜ (length (now lumps) ≡ 4) × (length (now remaining) ≡ 4) × (length (now seconds) ≡ 4) ⌝ }
+    ensures { λ r. ⌜ r ≡ placed (shareFrom (now (lumps .entry)) (now (remaining .entry)) (now (seconds .entry))) 4 ⌝ }
+{
+    let mut shares = [no_share(); 4];
+    let mut i = 0;
+    while i < 4 {
+        let share = Share {
+            lump: LumpPence(lumps[i]),
+            remaining: YearlyPence(remaining[i]),
+            second: LumpPence(seconds[i]),
+        };
+        shares[i] = share;
+        i += 1;
+    }
+    shares
 }
 
 // The figures of the first n pensions, and zeros in the places after them.
@@ -71,23 +107,19 @@ fn shares_of(
     requires { ⌜ SharesRange (now pensions) (now tops) (now bottoms) (now increases) (now lumps) n ⌝ }
     ensures { λ r. ⌜ r ≡ padded (sharesIn (now (pensions .entry)) (now (tops .entry)) (now (bottoms .entry)) (now (increases .entry)) (now (lumps .entry)) n) ⌝ }
 {
-    let mut shares = [no_share(); 4];
-    let mut i = 0;
-    while i < n {
-        let factor = Factor {
-            top: tops[i],
-            bottom: bottoms[i],
-        };
-        let share = share_of(
-            YearlyPence(pensions[i]),
-            factor,
-            increases[i],
-            LumpPence(lumps[i]),
-        );
-        shares[i] = share;
-        i += 1;
-    }
-    shares
+    let mut remaining = [0u32; 4];
+    let mut seconds = [0u32; 4];
+    take_off(
+        pensions,
+        tops,
+        bottoms,
+        increases,
+        lumps,
+        n,
+        &mut remaining,
+        &mut seconds,
+    );
+    shares_at(lumps, &remaining, &seconds)
 }
 
 // The first n numbers together.

@@ -1,6 +1,6 @@
 -- `quote` is the definition `quoteOf`: the characters first, then the length, then the case.
 use Prim.Native.Nat.{_<_, _≤_}
-use mathlib.Core.Bool.{true, false}
+use mathlib.Core.Bool.{false}
 use mathlib.Core.Path.{_≡_, refl, sym, _∙_}
 use native.Mathlib.Omega.{arith}
 use lib.ListN.{length}

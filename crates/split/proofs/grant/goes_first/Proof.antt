@@ -1,6 +1,6 @@
 -- `goes_first` is the definition `goesFirst` of any rows that have these prices.
 use Prim.Native.Nat.{ℕ}
-use mathlib.Core.Path.{_≡_, sym}
+use mathlib.Core.Path.{sym}
 use Rattle.split.specs.Grant.{Row, goesFirst}
 use Rattle.split.proofs.grant.goes_first.Statement.{statement}
 use Rattle.split.proofs.grant.goes_first.Tie as tie

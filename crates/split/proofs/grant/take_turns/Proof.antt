@@ -1,17 +1,18 @@
 -- `take_turns` takes the turns of the definition `turns`: those left from here give what all give from the start.
 use Prim.Native.Nat.{ℕ, _-_, _*_, _≤_, _<_, zero-le}
-use mathlib.Core.Bool.{Bool, true, false}
+use mathlib.Core.Bool.{true}
 use mathlib.Core.List.{List}
 use mathlib.Core.Path.{_≡_, refl, sym, _∙_, ap}
 use native.Mathlib.Nat.{le-refl, le-trans, sub-le, le-of-lt, lt-of-lt-of-le, sub-zero, sub-eq-zero-of-le, mul-le-mul-right}
 use native.Mathlib.Numerals.{add-one-le}
 use native.Mathlib.Omega.{arith}
-use lib.ListN.{length, getD, take, set, replicate, length-set}
+use lib.ListN.{length, getD, take, replicate, length-set, getD-replicate}
+use lib.Seq.{getD-set-other}
 use mir.Facts.{fits-le, fits-below}
-use Rattle.split.specs.Grant.{Row, rowAt, most, turns, lumpsOf}
+use Rattle.split.specs.Grant.{most, turns, lumpsOf}
 use Rattle.split.specs.Arrays.{rowsIn}
 use Rattle.split.proofs.ListLoop.{one-fewer, fewer}
-use Rattle.split.proofs.ArraysLaws.{Sized, rows-counted, row-at, row-served, lumps-in}
+use Rattle.split.proofs.ArraysLaws.{Sized, lumps-in}
 use Rattle.split.proofs.GrantLoop.{arrays-turn, lump-affordable, turns-idle}
 use Rattle.split.proofs.grant.take_turns.Statement.{statement}
 use Rattle.split.proofs.grant.take_turns.Tie as tie
@@ -21,7 +22,7 @@ Inv-loop prices caps n limit lumps₀ waiting₀ left₀ done₀ lumps waiting l
     (done ≤ n) × Sized prices caps lumps waiting 4
     × (turns n (take n (rowsIn prices caps (replicate 4 0) (replicate 4 true))) limit
     ≡ turns (n - done) (take n (rowsIn prices caps lumps waiting)) left)
-    × (left ≤ limit)
+    × (left ≤ limit) × ((j : ℕ) → n ≤ j → j < 4 → getD lumps j 0 ≡ 0)
 
 abbrev μ-loop : tie.MeasureT-loop
 μ-loop prices caps n limit lumps₀ waiting₀ left₀ done₀ lumps waiting left done = n - done
@@ -33,6 +34,7 @@ loop-holds c =
       record { prices = c .pre .1; caps = c .pre .2; lumps = ap length none; waiting = refl },
       rw (none, sub-zero (c .args .n)),
       le-refl (c .args .limit),
+      λ j h g. ap (λ (l : List ℕ). getD l j 0) none ∙ getD-replicate 4 j 0 0 g,
     )
 
 -- the place of a turn is one of the four
@@ -58,7 +60,7 @@ returns : tie.Need-returns Inv-loop μ-loop
 returns c =
     let l = c .before .before .before .before in
     let found = c .before .cheapest-place .ensures (l .before .args .caps .now) (l .loop .lumps) (l .before .pre .2) (l .loop .inv .1 .lumps) in
-    (granted l (turns-idle (l .before .args .n) _ _ _ (omega (arith, found, c .if1 .taken))), l .loop .inv .1 .lumps)
+    (granted l (turns-idle (l .before .args .n) _ _ _ (omega (arith, found, c .if1 .taken))), l .loop .inv .1 .lumps, l .loop .inv .4)
 
 loop-again : tie.Need-loop-again Inv-loop μ-loop
 loop-again c =
@@ -79,6 +81,7 @@ loop-again c =
           ∙ arrays-turn _ _ (l .loop .lumps) (l .loop .waiting) n (n - l .loop .done) _ _ (l .loop .left) _ sized
           (one-fewer (l .loop .done) n (test .loop-test .taken)) (e .if1 .left) (l .before .pre .0) found (c .before .most-of .ensures),
       le-trans (sub-le _ _) (l .loop .inv .3),
+      λ j h g. getD-set-other (l .loop .lumps) _ j _ 0 (λ same. omega (arith, e .if1 .left)) ∙ l .loop .inv .4 j h g,
     )
 
 -- no turn is left
@@ -87,7 +90,7 @@ unfolding turns
 returns-2 c =
     let l = c .before .loop in
     let a = c .before .before .args in
-    (granted (c .before) (ap (λ (m : ℕ). turns m (take (a .n) (rowsIn (a .prices .now) (a .caps .now) (l .lumps) (l .waiting))) (l .left)) (sub-eq-zero-of-le (c .loop-test .left))), l .inv .1 .lumps)
+    (granted (c .before) (ap (λ (m : ℕ). turns m (take (a .n) (rowsIn (a .prices .now) (a .caps .now) (l .lumps) (l .waiting))) (l .left)) (sub-eq-zero-of-le (c .loop-test .left))), l .inv .1 .lumps, l .inv .4)
 
 pub take-turns-spec : {M : Type 1} → statement M
 take-turns-spec =

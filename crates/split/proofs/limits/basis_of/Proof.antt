@@ -1,5 +1,4 @@
 -- `basis_of` puts together what its calls give, which is the definition `basisOf`.
-use mathlib.Core.Path.{_≡_}
 use native.Mathlib.Omega.{arith}
 use Rattle.split.specs.Refusal.{ageOf}
 use Rattle.split.proofs.WorkingLaws.{basis-made}

@@ -1,5 +1,4 @@
 -- `benefit_of` is the definition `multipleBenefit`, part by part, by what its calls promise.
-use Prim.Native.Nat.{_≤_}
 use mathlib.Core.Path.{_≡_}
 use native.Mathlib.Omega.{arith}
 use Rattle.split.specs.declared.case.Head.{Head}

@@ -1,5 +1,4 @@
 -- `increase_of` is the definition `increaseOf`, by the kind.
-use mathlib.Core.Path.{_≡_}
 use borrow.Author.Tests.{eq-eqb, ne-eqb}
 use Rattle.split.specs.Working.{increaseOf}
 use Rattle.split.proofs.limits.increase_of.Statement.{statement}

@@ -1,5 +1,4 @@
 -- `paid_thousandths` is the definition `paidThousandths`, branch by branch.
-use mathlib.Core.Path.{_≡_, sym, _∙_, ap}
 use native.Mathlib.Omega.{arith}
 use Rattle.split.proofs.WorkingLaws.{paid-early, paid-whole}
 use Rattle.split.proofs.limits.paid_thousandths.Statement.{statement}

@@ -2,15 +2,13 @@
 use mathlib.Core.Bool.{Bool, true, cond}
 use mathlib.Core.Path.{_≡_, sym, _∙_, ap, subst}
 use Prim.Native.Nat.{ℕ, _<_}
-use native.Mathlib.Nat.{le-of-lt, mul-le-mul-right}
 use native.Mathlib.Omega.{arith}
-use mir.Facts.{fits-below}
 use borrow.Author.Tests.{not-true, not-false}
 use Rattle.factors.specs.Effective.{FactorRange}
 use Rattle.split.specs.declared.case.Head.{Head}
 use Rattle.split.specs.Refusal.{ageOf}
 use Rattle.split.specs.Benefits.{factorOf}
-use Rattle.split.specs.Working.{basisOf, AcceptedIn, Columns, columns, stored, multipleBenefit}
+use Rattle.split.specs.Working.{basisOf, AcceptedIn, columns, stored, multipleBenefit}
 use Rattle.split.proofs.Accepted.{pension-accepted, factor-range}
 use Rattle.split.proofs.WorkingLaws.{basis-age, worked-range, figures-stored}
 use Rattle.split.proofs.limits.store_figures.Statement.{statement}

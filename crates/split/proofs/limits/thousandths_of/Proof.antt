@@ -1,5 +1,4 @@
 -- `thousandths_of` chooses by the kind.
-use mathlib.Core.Path.{_≡_, sym}
 use borrow.Author.Tests.{eq-eqb, ne-eqb}
 use Rattle.split.proofs.limits.thousandths_of.Statement.{statement}
 use Rattle.split.proofs.limits.thousandths_of.Tie as tie

@@ -1,7 +1,7 @@
 -- `worked_pension` is the definition `workedPension`: the thousandths that the kind chooses are paid.
 use Prim.Native.Nat.{ℕ, _≤_}
 use mathlib.Core.Bool.{Bool, true, false, cond}
-use mathlib.Core.Path.{_≡_, _∙_, ap}
+use mathlib.Core.Path.{_∙_, ap}
 use native.Mathlib.Omega.{arith}
 use lib.Dec.{eqb}
 use Rattle.split.proofs.WorkingLaws.{worked-paid}

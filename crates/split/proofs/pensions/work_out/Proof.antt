@@ -8,7 +8,7 @@ use mir.Facts.{fits-below}
 use Rattle.calendar.specs.Tests.{lowest}
 use Rattle.split.specs.Case.{caseLength}
 use Rattle.split.specs.Conditions.{lower, pensionConditions}
-use Rattle.split.specs.Working.{columns, WorkedOut}
+use Rattle.split.specs.Working.{columns}
 use Rattle.split.proofs.ListLoop.{fewer}
 use Rattle.split.proofs.WorkingLaws.{basis-age}
 use Rattle.split.proofs.PensionsLoop.{Gone, gone-none, one-worked, none-refused, gone-all, gone-above, gone-within}

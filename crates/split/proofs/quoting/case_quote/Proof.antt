@@ -1,14 +1,12 @@
 -- `case_quote` is the definition `caseQuote` of the pensions that were worked out: what each callee asks holds of an accepted
 -- case, and their promises compose.
 use Prim.Native.Nat.{ℕ, _≤_}
-use mathlib.Core.List.{List}
 use mathlib.Core.Path.{_≡_, refl, sym, _∙_}
 use native.Mathlib.Omega.{arith}
-use lib.ListN.{length, take}
+use lib.ListN.{take}
 use Rattle.split.specs.Benefits.{benefitsOf}
 use Rattle.split.specs.Limits.{total}
 use Rattle.split.specs.Grant.{grant}
-use Rattle.split.specs.Working.{Columns, Holds, columns}
 use Rattle.split.proofs.Accepted.{Accepted, case-accepted, accepted-pensions}
 use Rattle.split.proofs.RangesLaws.{lumps-small, shares-range}
 use Rattle.split.proofs.Granted.{pensions-summed, price-positive, grant-worked, quote-made, case-refused, case-granted}
@@ -86,7 +84,7 @@ shares-of-requires c κs =
     let start = e .before .before .before .before .before .before .before .before in
     let w = e .before .work-out .ensures in
     shares-range _ (w .pensions) _ _ _ (accepted e) (w .figures (e .if1 .left)) (w .four) (w .counted) (start .pre .1)
-    (turned .take-turns .ensures .1) (granted turned)
+    (turned .take-turns .ensures .1) (granted turned) (turned .take-turns .ensures .2)
 
 returns-2 : tie.Need-returns-2
 returns-2 c =

@@ -1,7 +1,6 @@
 -- `is_plain_service`: where it says so, both dates are in the calendar and all are in order.
 use mathlib.Core.Bool.{false≢true}
 use mathlib.Core.Path.{sym, _∙_}
-use native.Mathlib.Omega.{arith}
 use borrow.Author.Tests.{not-false}
 use Rattle.split.proofs.ConditionsLaws.{service-plain}
 use Rattle.split.proofs.refusal.is_plain_service.Statement.{statement}
