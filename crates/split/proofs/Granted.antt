@@ -23,6 +23,7 @@ use Rattle.split.specs.Grant.{rowOf, turns, lumpsOf, grant}
 use Rattle.split.specs.Arrays.{rowsIn}
 use Rattle.split.specs.Quote.{sharesOf, padded, lumpsGranted, grantedQuote, refusedQuote}
 use Rattle.split.specs.Working.{Columns, FourPlaces, Holds, WorkedOut, sharesIn, caseQuote}
+use Rattle.split.proofs.Accepted.{Accepted, accepted-pensions}
 use Rattle.split.proofs.ListLoop.{map-at}
 use Rattle.split.proofs.Prices.{price-floor}
 use Rattle.split.proofs.ArraysLaws.{rows-start}
@@ -37,8 +38,12 @@ worked-total h (p ∷ ps) = omega (arith, worked-total h ps)
 
 module _ (h : Head) (ps : List Pension) (c : Columns) (n : ℕ) (held : Holds h ps c) (four : FourPlaces c) (counted : length ps ≡ n)
     (few : n ≤ 4) where
-  pub pensions-summed : total (take n (c .pensions)) ≡ totalPension (benefitsOf h ps)
+  pensions-summed : total (take n (c .pensions)) ≡ totalPension (benefitsOf h ps)
   pensions-summed = rw (← counted, held .pensions) (worked-total h ps)
+
+  -- of an accepted case they are small
+  pub pensions-small : Accepted h ps → total (take n (c .pensions)) ≤ 50000000
+  pensions-small a = rw pensions-summed (accepted-pensions h ps a)
 
   -- a price is above 0
   pub price-positive : (j : ℕ) → j < n → 0 < getD (c .prices) j 0
@@ -59,12 +64,12 @@ module _ (h : Head) (ps : List Pension) (c : Columns) (n : ℕ) (held : Holds h 
       (λ j place. cap-held h ps c held j (rw same at place) ∙ sym (ap (λ (b : Benefit). b .cap .0) (at j place))))
 
   -- as many turns as there are pensions are the grant
-  pub grant-worked : (limit sum : ℕ) (lumps : List ℕ) → sum ≡ total (take n (c .pensions)) → limit ≡ 20000000000 * sum
-      → lumps ≡ lumpsOf (turns n (take n (rowsIn (c .prices) (c .caps) (replicate 4 0) (replicate 4 true))) limit)
+  pub grant-worked : (lumps : List ℕ)
+      → lumps ≡ lumpsOf (turns n (take n (rowsIn (c .prices) (c .caps) (replicate 4 0) (replicate 4 true))) (20000000000 * total (take n (c .pensions))))
       → lumps ≡ grant (benefitsOf h ps)
-  grant-worked limit sum lumps summed limited given =
-      grant-made (benefitsOf h ps) n limit _ lumps (length-map ps (benefitOf h) ∙ counted) rows
-      (limited ∙ ap (λ (t : ℕ). 20000000000 * t) (summed ∙ pensions-summed)) given
+  grant-worked lumps given =
+      grant-made (benefitsOf h ps) n _ _ lumps (length-map ps (benefitOf h) ∙ counted) rows
+      (ap (λ (t : ℕ). 20000000000 * t) pensions-summed) given
 
   -- the figures made one after the other are those of the grant
   pub quote-made : (lumps : List ℕ) (sum : LumpPence) (shares : List Share) → length lumps ≡ 4 → take n lumps ≡ grant (benefitsOf h ps)

@@ -4,8 +4,9 @@ use factors::money::LumpPence;
 ghost use mathlib.Core.Path.{_≡_};
 ghost use mathlib.Core.Bool.{true};
 ghost use mathlib.Core.List.{List};
-ghost use Prim.Native.Nat.{ℕ, _/_, _≤_, _<_, min};
+ghost use Prim.Native.Nat.{ℕ, _*_, _/_, _≤_, _<_, min};
 ghost use lib.ListN.{length, getD, take, replicate};
+ghost use Rattle.split.specs.Limits.{total};
 ghost use Rattle.split.specs.Grant.{Row, goesFirst, cheapest, turns, lumpsOf};
 ghost use Rattle.split.specs.Arrays.{rowsIn};
 
@@ -49,7 +50,7 @@ fn most_of(cap: LumpPence, price: u64, left: u64) -> LumpPence
 }
 
 // The first n pensions have their turns one after the other, and are given their lumps.
-pub fn take_turns(prices: &[u64; 4], caps: &[u32; 4], n: usize, limit: u64, lumps: &mut [u32; 4])
+fn take_turns(prices: &[u64; 4], caps: &[u32; 4], n: usize, limit: u64, lumps: &mut [u32; 4])
     requires { ⌜ (n ≤ 4) × (length (now prices) ≡ 4) × (length (now caps) ≡ 4) × ((j : ℕ) → j < n → 0 < getD (now prices) j 0) × (now lumps ≡ replicate 4 0) ⌝ }
     ensures { λ _. ⌜ (take n (now (lumps .exit)) ≡ lumpsOf (turns n (take n (rowsIn (now (prices .entry)) (now (caps .entry)) (replicate 4 0) (replicate 4 true))) limit)) × (length (now (lumps .exit)) ≡ 4) × ((j : ℕ) → n ≤ j → j < 4 → getD (now (lumps .exit)) j 0 ≡ 0) ⌝ }
 {
@@ -69,4 +70,24 @@ pub fn take_turns(prices: &[u64; 4], caps: &[u32; 4], n: usize, limit: u64, lump
         left -= spent;
         done += 1;
     }
+}
+
+// Grants the first n pensions their lumps, which are zero before: the priced limit is that of the pensions together.
+pub fn grant_of(
+    pensions: &[u32; 4],
+    prices: &[u64; 4],
+    caps: &[u32; 4],
+    n: usize,
+    lumps: &mut [u32; 4],
+)
+    requires { ⌜ (n ≤ 4) × (length (now pensions) ≡ 4) × (total (take n (now pensions)) ≤ 50000000) × (length (now prices) ≡ 4) × (length (now caps) ≡ 4) × ((j : ℕ) → j < n → 0 < getD (now prices) j 0) × (now lumps ≡ replicate 4 0) ⌝ }
+    ensures { λ _. ⌜ (take n (now (lumps .exit)) ≡ lumpsOf (turns n (take n (rowsIn (now (prices .entry)) (now (caps .entry)) (replicate 4 0) (replicate 4 true))) (20000000000 * total (take n (now (pensions .entry)))))) × (length (now (lumps .exit)) ≡ 4) × ((j : ℕ) → n ≤ j → j < 4 → getD (now (lumps .exit)) j 0 ≡ 0) ⌝ }
+{
+    let mut sum: u32 = 0;
+    let mut i = 0;
+    while i < n {
+        sum += pensions[i];
+        i += 1;
+    }
+    take_turns(prices, caps, n, 20000000000 * (sum as u64), lumps);
 }

@@ -122,18 +122,18 @@ fn shares_of(
     shares_at(lumps, &remaining, &seconds)
 }
 
-// The first n numbers together.
-fn sum_of(numbers: &[u32; 4], n: usize) -> u32
-    requires { ⌜ (n ≤ 4) × (length (now numbers) ≡ 4) × (total (take n (now numbers)) ≤ 1000000000) ⌝ }
-    ensures { λ r. ⌜ r ≡ total (take n (now (numbers .entry))) ⌝ }
+// The first n lumps together.
+fn total_of(lumps: &[u32; 4], n: usize) -> LumpPence
+    requires { ⌜ (n ≤ 4) × (length (now lumps) ≡ 4) × (total (take n (now lumps)) ≤ 1000000000) ⌝ }
+    ensures { λ r. ⌜ r .0 ≡ total (take n (now (lumps .entry))) ⌝ }
 {
     let mut sum: u32 = 0;
     let mut i = 0;
     while i < n {
-        sum += numbers[i];
+        sum += lumps[i];
         i += 1;
     }
-    sum
+    LumpPence(sum)
 }
 
 // The quote of a case with n pensions, the first of which is where the cursor stands.
@@ -162,10 +162,9 @@ pub fn case_quote(bytes: &[u8; LONGEST], at: Cursor, head: Head, n: usize) -> Qu
     if refused != 0 {
         return refused_quote(refused);
     }
-    let limit = 20000000000 * (sum_of(&pensions, n) as u64);
     let mut lumps = [0u32; 4];
-    grant::take_turns(&prices, &caps, n, limit, &mut lumps);
-    let total = LumpPence(sum_of(&lumps, n));
+    grant::grant_of(&pensions, &prices, &caps, n, &mut lumps);
+    let total = total_of(&lumps, n);
     let shares = shares_of(&pensions, &tops, &bottoms, &increases, &lumps, n);
     Quote {
         refusal: 0,
