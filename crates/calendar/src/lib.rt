@@ -1,7 +1,7 @@
 // Dates: whether they are in the calendar, their order, and the months between them.
 ghost use mathlib.Core.Path.{_≡_};
 ghost use Prim.Native.Nat.{_+_, _*_, _≤_};
-ghost use Rattle.calendar.specs.Calendar.{date, leap, usualDays, commonDate, inCalendar, earlier, incomplete, months, sixtiethBirthday};
+ghost use Rattle.calendar.specs.Calendar.{date, leap, yearIn, usualDays, commonDate, inCalendar, earlier, incomplete, months, sixtiethBirthday};
 
 // Any three numbers of these widths, as they stand in a case line; in_calendar tells which are dates.
 pub struct Date {
@@ -40,11 +40,18 @@ fn days_of(month: u8) -> u8
     }
 }
 
+// Whether the year of d is one of the calendar.
+fn is_year_in(d: Date) -> bool
+    ensures { λ r. ⌜ r ≡ yearIn d ⌝ }
+{
+    (1900 <= d.year) & (d.year <= 2199)
+}
+
 // Whether d is a date whose day its month has in every year: a date of the calendar, and any of them but a 29 February.
 pub fn is_common_date(d: Date) -> bool
     ensures { λ r. ⌜ r ≡ commonDate d ⌝ }
 {
-    (1900 <= d.year) & (d.year <= 2199) & ((1 <= d.day) & (d.day <= days_of(d.month)))
+    is_year_in(d) & ((1 <= d.day) & (d.day <= days_of(d.month)))
 }
 
 // Whether d is a date of the calendar. Whether a year is a leap year takes divisions: only 29 February asks.
@@ -55,7 +62,7 @@ pub fn in_calendar(d: Date) -> bool
         return true;
     }
     if (d.month == 2) & (d.day == 29) {
-        return (1900 <= d.year) & (d.year <= 2199) & leap_year(d.year as u32);
+        return is_year_in(d) & leap_year(d.year as u32);
     }
     false
 }

@@ -1,8 +1,8 @@
 -- Laws of the effective factor for the crates above: for terms within document 01's lists it lies between 5 and 80, whatever
 -- the kind, and so does the multiple of its top and bottom that the code works out. Assumes nothing.
-use mathlib.Core.Path.{_≡_, refl}
+use mathlib.Core.Path.{_≡_, refl, ap}
 use mathlib.Core.Bool.{Bool, true, false, cond, _||_}
-use Prim.Native.Nat.{ℕ, _+_, _-_, _*_, _≤_, _<_}
+use Prim.Native.Nat.{ℕ, _-_, _*_, _≤_, _<_}
 use native.Mathlib.Nat.{zero-mul, mul-le-mul-left}
 use native.Mathlib.Omega.{arith}
 use lib.Dec.{eqb}
@@ -74,20 +74,21 @@ multiple-range kind t = go (eqb kind 1) (eqb kind 2)
 made : {a b c d : ℕ} → a ≡ c → b ≡ d → _≡_ {A = Factor} (record { top = a; bottom = b }) (record { top = c; bottom = d })
 made x y = λ i. record { top = x i; bottom = y i }
 
--- what the code makes of terms that have 1,200 for F1 where the kind is neither 1 nor 2
-pub multiple-made : (kind f1 top bottom : ℕ) (t : FactorTerms) → f1 ≡ cond (eqb kind 1 || eqb kind 2) (t .f1) 1200
-    → let s : FactorTerms = record { f1 = f1; f2 = t .f2; f3 = t .f3; increase = t .increase } in
-    top ≡ lumpTop s → bottom ≡ lumpBottom s → (eqb kind 2 ≡ false → t .increase ≡ 0)
+-- what the code makes of terms that have 1,200 for F1 where the kind is neither 1 nor 2, and no increase where it is not 2
+pub multiple-made : (kind f1 increase top bottom : ℕ) (t : FactorTerms) → f1 ≡ cond (eqb kind 1 || eqb kind 2) (t .f1) 1200
+    → increase ≡ cond (eqb kind 2) (t .increase) 0
+    → let s : FactorTerms = record { f1 = f1; f2 = t .f2; f3 = t .f3; increase = increase } in top ≡ lumpTop s → bottom ≡ lumpBottom s
     → _≡_ {A = Factor} (record { top = 10 * top; bottom = bottom }) (multiple (multiplier kind) (effectiveFactor kind t))
 unfolding lumpTop lumpBottom effectiveFactor multiplier multiple
-multiple-made kind f1 top bottom t chosen x y none = go (eqb kind 1) (eqb kind 2) refl refl chosen
+multiple-made kind f1 increase top bottom t chosen raised x y = go (eqb kind 1) (eqb kind 2) refl refl chosen raised
   where
-    no-increase : eqb kind 2 ≡ false → (t .increase * t .f2 ≡ 0) × (t .increase * t .f3 ≡ 0)
-    no-increase e = rw (none e) (zero-mul (t .f2), zero-mul (t .f3))
+    none : increase ≡ 0 → (increase * t .f2 ≡ 0) × (increase * t .f3 ≡ 0)
+    none e = rw e (zero-mul (t .f2), zero-mul (t .f3))
 
-    go : (a b : Bool) → eqb kind 1 ≡ a → eqb kind 2 ≡ b → f1 ≡ cond (a || b) (t .f1) 1200
+    go : (a b : Bool) → eqb kind 1 ≡ a → eqb kind 2 ≡ b → f1 ≡ cond (a || b) (t .f1) 1200 → increase ≡ cond b (t .increase) 0
         → _≡_ {A = Factor} (record { top = 10 * top; bottom = bottom }) (multiple (multiplierBy a b) (factorBy a b t))
-    go true true p q f = absurd (omega (arith, eqb-true kind 1 p, eqb-true kind 2 q))
-    go true false p q f = made (omega (arith, no-increase q)) (omega (arith, no-increase q))
-    go false true p q f = made (omega arith) (omega arith)
-    go false false p q f = made (omega (arith, no-increase q)) (omega (arith, no-increase q))
+    go true true p q f r = absurd (omega (arith, eqb-true kind 1 p, eqb-true kind 2 q))
+    go true false p q f r = made (omega (arith, none r)) (omega (arith, none r))
+    go false true p q f r =
+        made (omega (arith, ap (λ (n : ℕ). n * t .f2) r)) (omega (arith, ap (λ (n : ℕ). n * t .f3) r))
+    go false false p q f r = made (omega (arith, none r)) (omega (arith, none r))

@@ -1,8 +1,6 @@
 // The effective factor E: the lump sum for one penny a year of pension, as a top over a bottom.
 ghost use mathlib.Core.Path.{_≡_};
-ghost use mathlib.Core.Bool.{false};
 ghost use Prim.Native.Nat.{_*_, _<_};
-ghost use lib.Dec.{eqb};
 ghost use Rattle.factors.specs.Effective.{effectiveFactor, lumpTop, lumpBottom, multiplier, multiple};
 
 pub struct Factor {
@@ -40,19 +38,21 @@ fn lump_bottom(t: FactorTerms) -> u64
     10000000 + product(t.increase, t.f3)
 }
 
-// E of a pension as 10N/D, whatever its kind: kind 3, as which any number that is no kind counts, has 1,200 for F1, and PI is
-// 0 for all but kind 2. One formula, since kinds come in any order and a branch by them is mispredicted; its tops and
-// bottoms are of one size, so that a division by them does not branch either.
+// E of a pension as 10N/D, whatever its kind: kind 3, as which any number that is no kind counts, has 1,200 for F1, and PI counts
+// for kind 2 alone. One formula, since kinds come in any order and a branch by them is mispredicted; its tops and bottoms
+// are of one size, so that a division by them does not branch either.
 pub fn effective_factor(kind: u8, t: FactorTerms) -> Factor
-    ensures { λ r. ⌜ ((eqb kind 2 ≡ false → t .increase ≡ 0) → r ≡ multiple (multiplier kind) (effectiveFactor kind t)) ⌝ }
+    ensures { λ r. ⌜ r ≡ multiple (multiplier kind) (effectiveFactor kind t) ⌝ }
 {
-    let first_or_second = (kind == 1) | (kind == 2);
+    let second = kind == 2;
+    let first_or_second = (kind == 1) | second;
     let f1 = if first_or_second { t.f1 } else { 1200 };
+    let increase = if second { t.increase } else { 0 };
     let terms = FactorTerms {
         f1,
         f2: t.f2,
         f3: t.f3,
-        increase: t.increase,
+        increase,
     };
     let top = lump_top(terms);
     let bottom = lump_bottom(terms);

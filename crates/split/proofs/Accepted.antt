@@ -161,18 +161,6 @@ increase-small p listed = go (eqb (p .kind) 1) (eqb (p .kind) 2) listed
     go false true e = listed-small (p .terms) (last-holds (leb (p .lift) 1) (listedF1 (p .terms)) _ e)
     go false false e = none-small (p .terms) (last-holds (eqb (p .lift) 0) (eqb (p .terms .f1) 0) _ e)
 
--- and 0 for all kinds but 2
-pub increase-none : (p : Pension) → unlisted p ≡ false → eqb (p .kind) 2 ≡ false → p .terms .increase ≡ 0
-unfolding unlisted
-increase-none p listed other = go (eqb (p .kind) 1) (rw other at listed)
-  where
-    go : (direct : Bool)
-        → cond direct (not (leb (p .lift) 1 && (listedF1 (p .terms) && noIncrease (p .terms))))
-        (not (eqb (p .lift) 0 && (eqb (p .terms .f1) 0 && noIncrease (p .terms)))) ≡ false
-        → p .terms .increase ≡ 0
-    go true e = none-zero (p .terms) (last-holds (leb (p .lift) 1) (listedF1 (p .terms)) _ e)
-    go false e = none-zero (p .terms) (last-holds (eqb (p .lift) 0) (eqb (p .terms .f1) 0) _ e)
-
 -- a pension is at most what is stated
 pub worked-at-most : (h : Head) (p : Pension) → workedPension h p ≤ p .stated .0
 unfolding workedPension

@@ -27,14 +27,13 @@ use Rattle.split.specs.declared.case.Pension.{Pension}
 use Rattle.split.specs.declared.limits.Basis.{Basis}
 use Rattle.split.specs.declared.limits.Benefit.{Benefit}
 use Rattle.split.specs.Case.{noPension}
-use Rattle.split.specs.Refusal.{ageOf, unlisted}
+use Rattle.split.specs.Refusal.{ageOf}
 use Rattle.split.specs.Benefits.{workedPension, factorOf, workedTerms, limitedLump, capOf, benefitOf}
 use Rattle.split.specs.Limits.{priceOf}
 use Rattle.split.specs.Quote.{remainingOf, secondOf, shareOf, sharesOf}
 use Rattle.split.specs.Working.{paidThousandths, basisOf, multipleFactor, multipleBenefit, increaseOf, Columns, columns, FourPlaces, stored, Holds, shareIn, factorIn, placed, sharesIn}
 use Rattle.split.proofs.ListLoop.{map-stored, stored-at, take-next}
 use Rattle.split.proofs.MultipleLaws.{quarter-multiple, price-multiple, given-up-multiple}
-use Rattle.split.proofs.Accepted.{increase-none}
 use Rattle.split.proofs.QuoteLaws.{shares-more}
 
 -- the thousandths that are paid, before age 60 and from then on
@@ -102,15 +101,12 @@ pub cap-multiple : (limited : Bool) (m pension : ℕ) (e : Factor) → 0 < m →
 unfolding capOf
 cap-multiple limited m pension e positive = rw (quarter-multiple m pension e positive)
 
--- the factor of worked terms, of a pension whose terms are listed
-pub factor-worked : (h : Head) (p : Pension) (t : FactorTerms) (e : Factor) → unlisted p ≡ false
-    → t ≡ workedTerms (ageOf h) (p .terms)
-    → ((eqb (p .kind) 2 ≡ false → t .increase ≡ 0) → e ≡ multiple (multiplier (p .kind)) (effectiveFactor (p .kind) t))
-    → e ≡ multipleFactor h p
-unfolding multipleFactor factorOf workedTerms
-factor-worked h p t e listed made worked =
-    worked (λ other. ap (λ (x : FactorTerms). x .increase) made ∙ increase-none p listed other)
-    ∙ ap (λ (x : FactorTerms). multiple (multiplier (p .kind)) (effectiveFactor (p .kind) x)) made
+-- the factor of worked terms
+pub factor-worked : (h : Head) (p : Pension) (t : FactorTerms) (e : Factor) → t ≡ workedTerms (ageOf h) (p .terms)
+    → e ≡ multiple (multiplier (p .kind)) (effectiveFactor (p .kind) t) → e ≡ multipleFactor h p
+unfolding multipleFactor factorOf
+factor-worked h p t e made worked =
+    worked ∙ ap (λ (x : FactorTerms). multiple (multiplier (p .kind)) (effectiveFactor (p .kind) x)) made
 
 -- a pension as the limits see it, of its parts
 pub benefit-worked : (h : Head) (p : Pension) (pension : YearlyPence) (e : Factor) (limited : Bool) (cap : LumpPence)

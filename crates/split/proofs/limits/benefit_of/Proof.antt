@@ -20,7 +20,7 @@ factor : (c : tie.After-effective-factor) (h : Head) → c .before .before .befo
     → c .effective-factor .result ≡ multipleFactor h (c .before .before .before .before .args .p)
 factor c h e =
     let start = c .before .before .before .before in
-    factor-worked h (start .args .p) _ _ (accepted start .listed)
+    factor-worked h (start .args .p) _ _
     (c .before .worked-terms .ensures _ (basis-found _ _ e)) (c .effective-factor .ensures)
 
 cap-of-requires : tie.Need-cap-of-requires

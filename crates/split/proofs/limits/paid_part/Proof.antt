@@ -3,8 +3,8 @@ use Prim.Native.Nat.{_*_, _≤_}
 use native.Mathlib.Omega.{arith}
 use native.Mathlib.Nat.{mul-le-mul-left}
 use borrow.Author.Needs.{needs}
-use Rattle.factors.proofs.early_payment.paid_part.Statement.{statement}
-use Rattle.factors.proofs.early_payment.paid_part.Tie as tie
+use Rattle.split.proofs.limits.paid_part.Statement.{statement}
+use Rattle.split.proofs.limits.paid_part.Tie as tie
 
 -- the product is at most a thousand times the stated pension
 product : (c : tie.Start) → c .args .stated .0 * c .args .thousandths ≤ c .args .stated .0 * 1000
