@@ -4,7 +4,7 @@
 use Prim.Native.Nat.{ℕ, zero, suc, _+_, _*_, _/_, _%_, _≤_, _<_}
 use mathlib.Core.List.{List, [], _∷_, _++_, map, map-append, append-nil, append-assoc}
 use mathlib.Core.Path.{_≡_, refl, sym, _∙_, ap}
-use native.Mathlib.Nat.{add-zero, zero-mul, mod-mod}
+use native.Mathlib.Nat.{add-zero, zero-mul}
 use native.Mathlib.Numerals.{add-one}
 use native.Mathlib.Omega.{arith}
 use lib.ListN.{length, getD, take, drop, set, length-append, length-map, drop-of-length-le}
@@ -89,12 +89,7 @@ pub spell-end : (l whole : List ℕ) (i : ℕ) → length l ≤ i → take i l +
 spell-end l whole i h inv =
     sym (rw (take-all i l h, drop-of-length-le l {i = i} h) (append-nil l)) ∙ inv
 
--- the values of a figure's digits are spelled as its text, whether they were written by themselves or from its bytes
-pub spelled-digits : (n x : ℕ) → spelled (digitsIn 16 n x) ≡ hexText n x
-unfolding digitsIn
-spelled-digits zero x = simp hex-none
-spelled-digits (suc n) x = simp (hex-more, map-append, spelled-digits n (x / 16), mod-mod)
-
+-- the values of a figure's digits, made of its bytes, are spelled as its text
 values-append : (xs ys : List ℕ) → byteValues (xs ++ ys) ≡ byteValues xs ++ byteValues ys
 unfolding byteValues
 values-append [] ys = refl
@@ -145,10 +140,16 @@ figures-written l l₁ l₂ xs ys at at₁ e a b =
     let place : at₁ ≡ at + length (figuresBytes xs) = simp bytes-length e in
     b ∙ rw (place, a, bytes-append xs ys) (sym (sets-append l at (figuresBytes xs) (figuresBytes ys)))
 
--- a figure written over as many characters as it has digits
-pub figure-written : (l t : List ℕ) (x : ℕ) → length l ≡ figureWidth → t ≡ sets l 0 (hexText figureWidth x) → t ≡ hexText figureWidth x
-figure-written l t x full written =
-    written ∙ sets-all l (hexText figureWidth x) (omega (arith, hex-length figureWidth x))
+-- a figure's bytes, the values made of them and the characters made of those
+pub figure-written : (zeros bytes digits values text : List ℕ) (x : ℕ) → length zeros ≡ figureBytes → length digits ≡ figureWidth
+    → bytes ≡ sets zeros 0 (digitsIn 256 figureBytes x) → values ≡ sets digits 0 (byteValues bytes) → text ≡ spelled values
+    → text ≡ hexText figureWidth x
+figure-written zeros bytes digits values text x few wide written made spelt =
+    let whole : bytes ≡ digitsIn 256 figureBytes x = written ∙ sets-all zeros (digitsIn 256 figureBytes x) (few ∙ sym (digits-length 256 figureBytes x)) in
+    let back : spelled (byteValues bytes) ≡ hexText figureWidth x = rw whole (spelled-bytes figureBytes x) in
+    let size : length (byteValues bytes) ≡ figureWidth = simp length-map at (ap length back) ∙ hex-length figureWidth x in
+    let same : values ≡ byteValues bytes = made ∙ sets-all digits (byteValues bytes) (wide ∙ sym size) in
+    spelt ∙ ap spelled same ∙ back
 
 pub three-written : (l l₁ l₂ l₃ : List ℕ) (at at₁ at₂ x y z : ℕ) → at₁ ≡ at + figureBytes → at₂ ≡ at₁ + figureBytes
     → l₁ ≡ sets l at (digitsIn 256 figureBytes x) → l₂ ≡ sets l₁ at₁ (digitsIn 256 figureBytes y)

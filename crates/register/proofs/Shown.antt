@@ -1,7 +1,7 @@
 -- A register that shows a ledger: its used part is the ledger's lines, on a ground that shows behind them. Filing in it answers
 -- what the ledger answers and leaves a register that shows the ledger after it, so a list of filings does too; and every
 -- register that checks sound shows a ledger of its own lines. Assumes nothing.
-use Prim.Native.Nat.{ℕ, _+_}
+use Prim.Native.Nat.{ℕ}
 use mathlib.Core.List.{List, [], _++_}
 use mathlib.Core.Path.{_≡_, sym, _∙_, ap, subst}
 use native.Mathlib.Omega.{arith}

@@ -49,7 +49,7 @@ fn last_of_member(register: &[u8], n: usize, member: u32) -> usize
     ensures { λ r. ⌜ LastAt (hasMember member) (cutLines lineLayout n (now (register .entry))) r ⌝ }
 {
     let mut digits = [0u8; FIGURE_WIDTH];
-    layout::write_figure(&mut digits, 0, member);
+    layout::write_figure(&mut digits, member);
     let mut i = n;
     while 0 < i {
         i -= 1;

@@ -55,20 +55,6 @@ fn hex_character(digit: u8) -> u8
     55 + digit
 }
 
-// Writes the values of a figure's digits from a place on.
-fn write_digits(line: &mut [u8], at: usize, value: u32)
-    requires { ⌜ at + figureWidth ≤ length (now line) ⌝ }
-    ensures { λ _. ⌜ now (line .exit) ≡ sets (now (line .entry)) at (digitsIn 16 figureWidth value) ⌝ }
-{
-    let mut left = value;
-    let mut i = FIGURE_WIDTH;
-    while 0 < i {
-        i -= 1;
-        line[at + i] = (left % 16) as u8;
-        left /= 16;
-    }
-}
-
 // Makes characters of the values of digits, for a whole line at once, since the compiler then takes 16 together. The remainder
 // changes no digit, and nothing need be known of the bytes.
 fn spell(digits: &mut [u8])
@@ -79,15 +65,6 @@ fn spell(digits: &mut [u8])
         digits[i] = hex_character(digits[i] % 16);
         i += 1;
     }
-}
-
-// Writes a figure's digits from a place on.
-pub fn write_figure(line: &mut [u8], at: usize, value: u32)
-    requires { ⌜ at + figureWidth ≤ length (now line) ⌝ }
-    ensures { λ _. ⌜ now (line .exit) ≡ sets (now (line .entry)) at (hexText figureWidth value) ⌝ }
-{
-    write_digits(line, at, value);
-    spell(&mut line[at..at + FIGURE_WIDTH]);
 }
 
 // Writes the bytes of a figure from a place on, the highest first.
@@ -139,6 +116,17 @@ fn write_values(line: &mut [u8], bytes: &[u8])
         line[BYTE_DIGITS * i + 1] = bytes[i] % 16;
         i += 1;
     }
+}
+
+// Writes a figure's digits over as many characters.
+pub fn write_figure(digits: &mut [u8], value: u32)
+    requires { ⌜ length (now digits) ≡ figureWidth ⌝ }
+    ensures { λ _. ⌜ now (digits .exit) ≡ hexText figureWidth value ⌝ }
+{
+    let mut bytes = [0u8; FIGURE_BYTES];
+    write_bytes(&mut bytes, 0, value);
+    write_values(digits, &bytes);
+    spell(digits);
 }
 
 // Writes the line of a numbered quote over a whole line's bytes. Only the figures' bytes, half as many as the digits, are written

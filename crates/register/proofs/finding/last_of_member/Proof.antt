@@ -7,7 +7,6 @@ use Rattle.register.specs.Line.{figureWidth, textLength}
 use Rattle.register.specs.Layout.{lineLayout}
 use Rattle.register.specs.Find.{hasMember}
 use Rattle.register.proofs.CheckLaws.{number-inside}
-use Rattle.register.proofs.LineLoop.{figure-written}
 use Rattle.register.proofs.FindLoop.{Same, same-hit, same-miss, same-none, member-digits, member-told, line-digits}
 use Rattle.register.proofs.finding.last_of_member.Statement.{statement}
 use Rattle.register.proofs.finding.last_of_member.Tie as tie
@@ -21,7 +20,7 @@ abbrev μ-loop : tie.MeasureT-loop
 
 loop-holds : tie.Need-loop-holds Inv-loop μ-loop
 loop-holds c = (
-  figure-written _ _ _ refl (c .before .write-figure .ensures),
+  c .before .write-figure .ensures,
   record { within = omega arith; place = refl; some = refl },
 )
 

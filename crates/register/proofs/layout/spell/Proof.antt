@@ -1,8 +1,7 @@
 -- `spell` makes each digit's character: what is made, with what the values left make, is what all make.
-use Prim.Native.Nat.{_-_, _≤_}
+use Prim.Native.Nat.{_-_}
 use mathlib.Core.List.{_++_}
 use mathlib.Core.Path.{_≡_, refl}
-use native.Mathlib.Omega.{arith}
 use lib.ListN.{length, take, drop, length-set}
 use borrow.Author.Needs.{needs}
 use Rattle.register.proofs.LineLoop.{spelled, spell-next, spell-end}
