@@ -1,13 +1,23 @@
-/* Quotes a case, files it, finds it again by number and by member, and prints
- * it in pounds and pence. */
+/* Quotes a case, files it with two others, finds lines again by number and by
+ * member, and prints it all: money in pounds and pence, and how many lines were
+ * compared to find a member. */
 #include <inttypes.h>
 #include <stdio.h>
 #include <string.h>
 
 #include "pension.h"
 
-/* A 1987 pension of £30,000.00 a year, taken at 53 years and 16 days. */
-static const char case_line[] = "0000000107B2060F07E707010101002DC6C007C9060107E70701000000000000000000";
+/* Cases of members 1, 2 and 3. The first is a 1987 pension of £30,000.00 a year,
+ * taken at 53 years and 16 days. */
+static const char *const case_lines[] = {
+    "0000000107B2060F07E707010101002DC6C007C9060107E70701000000000000000000",
+    "0000000207B2060F07E7070101020030D40007C9060107E70701000A4408E8036803E8",
+    "0000000307B2060F07E707010101001E848007C9060107E70701000000000000000000",
+};
+
+enum { CASES = sizeof case_lines / sizeof case_lines[0] };
+
+static uint8_t register_bytes[100 * PENSION_LINE_LENGTH];
 
 static void print_amount(const char *what, uint64_t pence)
 {
@@ -33,33 +43,64 @@ static int print_quote(struct pension_quote quote)
     return 0;
 }
 
-static int print_found(const char *by, const uint8_t *register_bytes, struct pension_found found)
+/* Files every case and gives the used length, or 0 if one is refused. */
+static size_t file_cases(void)
+{
+    size_t used = 0;
+    for (int k = 0; k < CASES; k++) {
+        struct pension_filed filed = pension_file(register_bytes, sizeof register_bytes, used,
+                                                  (const uint8_t *)case_lines[k], strlen(case_lines[k]));
+        if (filed.refusal != PENSION_GRANTED) {
+            printf("not filed: refused with %" PRIu32 "\n", filed.refusal);
+            return 0;
+        }
+        used = filed.used;
+    }
+    return used;
+}
+
+/* Prints the line that was found, or why there is none. */
+static void print_found(const char *by, uint32_t wanted, struct pension_found found)
 {
     if (found.refusal != PENSION_GRANTED) {
-        printf("not found by %s: refused with %" PRIu32 "\n", by, found.refusal);
-        return 1;
+        printf("not found by %s %" PRIu32 ": refused with %" PRIu32 "\n", by, wanted, found.refusal);
+        return;
     }
-    printf("found by %s at offset %zu:\n", by, found.offset);
-    return fwrite(register_bytes + found.offset, 1, found.length, stdout) != found.length;
+    printf("found by %s %" PRIu32 " at offset %zu:\n", by, wanted, found.offset);
+    fwrite(register_bytes + found.offset, 1, found.length, stdout);
+}
+
+/* Finds a number and gives the refusal. */
+static uint32_t find_number(size_t used, uint32_t number)
+{
+    struct pension_found found = pension_find_number(register_bytes, sizeof register_bytes, used, number);
+    print_found("number", number, found);
+    return found.refusal;
+}
+
+/* Finds a member's newest line, says how many lines were compared, and gives the refusal. */
+static uint32_t find_member(size_t used, uint32_t member)
+{
+    struct pension_found_member found =
+        pension_find_member(register_bytes, sizeof register_bytes, used, member);
+    print_found("member", member, (struct pension_found){found.refusal, found.offset, found.length});
+    printf("  lines compared: %zu of %zu\n", found.compared, used / PENSION_LINE_LENGTH);
+    return found.refusal;
 }
 
 int main(void)
 {
-    static uint8_t register_bytes[100 * PENSION_LINE_LENGTH];
-    size_t used = 0;
-    const uint8_t *line = (const uint8_t *)case_line;
-    size_t line_length = strlen(case_line);
-
-    if (print_quote(pension_quote(line, line_length)))
+    if (print_quote(pension_quote((const uint8_t *)case_lines[0], strlen(case_lines[0]))))
         return 1;
 
-    struct pension_filed filed = pension_file(register_bytes, sizeof register_bytes, used, line, line_length);
-    if (filed.refusal != PENSION_GRANTED) {
-        printf("not filed: refused with %" PRIu32 "\n", filed.refusal);
+    size_t used = file_cases();
+    if (used == 0)
         return 1;
-    }
-    used = filed.used;
 
-    return print_found("number 1", register_bytes, pension_find_number(register_bytes, sizeof register_bytes, used, 1))
-        || print_found("member 1", register_bytes, pension_find_member(register_bytes, sizeof register_bytes, used, 1));
+    /* Member 3 has the newest line and member 1 the oldest; 4 has none. */
+    return find_number(used, 1) != PENSION_GRANTED
+        || find_member(used, 3) != PENSION_GRANTED
+        || find_member(used, 1) != PENSION_GRANTED
+        || find_member(used, 4) != PENSION_ABSENT
+        || fflush(stdout) != 0 || ferror(stdout);
 }

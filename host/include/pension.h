@@ -15,7 +15,8 @@
  * writes anything.
  *
  * What a refusal leaves. All figures of the answer are 0 (but the offset that
- * pension_check gives with PENSION_BAD_REGISTER), and no byte of the register
+ * pension_check gives with PENSION_BAD_REGISTER, and the count of lines that
+ * pension_find_member gives with PENSION_ABSENT), and no byte of the register
  * is written. The lowest refusal that applies is given.
  *
  * Threads. The engine has no state of its own and allocates nothing: calls may
@@ -98,6 +99,16 @@ struct pension_found {
     size_t length; /* PENSION_LINE_LENGTH; 0 under a refusal */
 };
 
+/* A member's newest line found: its place as in pension_found, and how many
+ * lines of the register were compared, starting from the newest. Lines that only
+ * the check looks at do not count. */
+struct pension_found_member {
+    uint32_t refusal; /* 0, 11 or 14 */
+    size_t offset;
+    size_t length;   /* PENSION_LINE_LENGTH; 0 under a refusal */
+    size_t compared; /* one more than the number of newer lines; with 14: all lines; with 11: 0 */
+};
+
 /* The quote of a case line (its newline left out). Refusals 1 to 10. */
 struct pension_quote pension_quote(const uint8_t *line, size_t line_length);
 
@@ -129,9 +140,10 @@ size_t pension_file_all(uint8_t *register_bytes, size_t register_length,
 struct pension_found pension_find_number(const uint8_t *register_bytes, size_t register_length, size_t used,
                                          uint32_t number);
 
-/* A member's newest line. Refusals 11 and 14. */
-struct pension_found pension_find_member(const uint8_t *register_bytes, size_t register_length, size_t used,
-                                         uint32_t member);
+/* A member's newest line. Refusals 11 and 14. The whole used part is checked
+ * before any line is compared. */
+struct pension_found_member pension_find_member(const uint8_t *register_bytes, size_t register_length,
+                                                size_t used, uint32_t member);
 
 #ifdef __cplusplus
 }

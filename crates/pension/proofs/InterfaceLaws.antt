@@ -9,11 +9,13 @@ use lib.ListN.{length, getD, take, drop, set, length-set}
 use lib.Seq.{take-all}
 use Rattle.split.proofs.ListLoop.{map-more, take-next}
 use Rattle.register.specs.declared.answers.Located.{Located}
+use Rattle.register.specs.declared.answers.LocatedMember.{LocatedMember}
 use Rattle.register.specs.Layout.{Register, lineLayout}
-use Rattle.register.specs.Find.{findLine, locate}
-use Rattle.register.proofs.FindLaws.{located-within}
+use Rattle.register.specs.Find.{hasMember, findLine, locate, locateMember}
+use Rattle.register.proofs.FindLaws.{located-within, member-within}
 use Rattle.pension.specs.declared.answers.PensionFound.{PensionFound}
-use Rattle.pension.specs.Interface.{foundForC}
+use Rattle.pension.specs.declared.answers.PensionFoundMember.{PensionFoundMember}
+use Rattle.pension.specs.Interface.{foundForC, foundMemberForC}
 
 -- of four elements the first i have their figure in an array
 pub record Filled {A : Type 0} (f : A → ℕ) (xs : List A) (figures : List ℕ) (i : ℕ) : Type 0 where
@@ -39,3 +41,10 @@ pub found-bytes : (f : List ℕ → Bool) (r : Register) (at : Located) (found :
     → (found ≡ foundForC (locate f r)) × (take (found .length) (drop (found .offset) (r .bytes)) ≡ findLine f r)
 unfolding foundForC
 found-bytes f r at found located made = (made ∙ ap foundForC located, rw made (located-within lineLayout f r at located .line))
+
+pub member-bytes : (member : ℕ) (r : Register) (at : LocatedMember) (found : PensionFoundMember) → at ≡ locateMember member r
+    → found ≡ foundMemberForC at
+    → (found ≡ foundMemberForC (locateMember member r)) × (take (found .length) (drop (found .offset) (r .bytes)) ≡ findLine (hasMember member) r)
+unfolding foundMemberForC
+member-bytes member r at found located made =
+    (made ∙ ap foundMemberForC located, rw made (member-within lineLayout member r at located .line))

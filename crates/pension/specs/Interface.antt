@@ -5,6 +5,7 @@ use Rattle.split.specs.declared.answers.Quote.{Quote}
 use Rattle.register.specs.declared.answers.Checked.{Checked}
 use Rattle.register.specs.declared.answers.Filed.{Filed}
 use Rattle.register.specs.declared.answers.Located.{Located}
+use Rattle.register.specs.declared.answers.LocatedMember.{LocatedMember}
 use Rattle.register.specs.Layout.{Register}
 use Rattle.register.specs.Text.{FiledText}
 use Rattle.pension.specs.declared.answers.PensionQuote.{PensionQuote}
@@ -12,6 +13,7 @@ use Rattle.pension.specs.declared.answers.PensionChecked.{PensionChecked
 use Rattle.pension.specs.declared.answers.PensionFiled.{PensionFiled}
 use Rattle.pension.specs.declared.answers.PensionFiledLines.{PensionFiledLines}
 use Rattle.pension.specs.declared.answers.PensionFound.{PensionFound}
+use Rattle.pension.specs.declared.answers.PensionFoundMember.{PensionFoundMember}
 
 -- a quote, with the figures of its four shares side by side
 unfoldable pub quoteForC : Quote → PensionQuote
@@ -40,3 +42,12 @@ FiledTextForC r text old after refusals f =
 -- where a line was found
 unfoldable pub foundForC : Located → PensionFound
 foundForC l = record { refusal = l .refusal; offset = l .offset; length = l .length }
+
+-- where a member's newest line was found, and how many lines were compared
+unfoldable pub foundMemberForC : LocatedMember → PensionFoundMember
+foundMemberForC m = record {
+  refusal = m .located .refusal;
+  offset = m .located .offset;
+  length = m .located .length;
+  compared = m .compared;
+}

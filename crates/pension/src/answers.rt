@@ -1,5 +1,5 @@
-// What the C calls answer, as pension.h declares it: refusals and members in 32 bits, money in pence in 64, offsets and
-// lengths as the machine has them.
+// What the C calls answer, as pension.h declares it: refusals and members in 32 bits, money in pence in 64, offsets,
+// lengths and counts as the machine has them.
 
 // A quote: refusal 0 and the figures of up to four pensions, or the refusal and zeros.
 #[repr(C)]
@@ -39,4 +39,14 @@ pub struct PensionFound {
     pub refusal: u32,
     pub offset: usize,
     pub length: usize,
+}
+
+// A member's newest line: as a line found, and how many lines were compared, from the newest back: 0 under 11, all lines under
+// 14.
+#[repr(C)]
+pub struct PensionFoundMember {
+    pub refusal: u32,
+    pub offset: usize,
+    pub length: usize,
+    pub compared: usize,
 }

@@ -6,19 +6,21 @@ use answers::PensionChecked;
 use answers::PensionFiled;
 use answers::PensionFiledLines;
 use answers::PensionFound;
+use answers::PensionFoundMember;
 use answers::PensionQuote;
 use register::answers::Filed;
 use register::answers::Located;
+use register::answers::LocatedMember;
 use split::answers::Quote;
 ghost use mathlib.Core.Path.{_≡_};
 ghost use lib.ListN.{length, take, drop};
 ghost use Rattle.split.specs.Quote.{quoteOf};
 ghost use Rattle.register.specs.Check.{checkOf};
-ghost use Rattle.register.specs.Find.{hasNumber, hasMember, findLine, locate};
+ghost use Rattle.register.specs.Find.{hasNumber, hasMember, findLine, locate, locateMember};
 ghost use Rattle.register.specs.Layout.{lent};
 ghost use Rattle.register.specs.File.{filing, fileStep};
 ghost use Rattle.register.specs.Text.{FiledAll};
-ghost use Rattle.pension.specs.Interface.{quoteForC, checkedForC, filedForC, FiledTextForC, foundForC};
+ghost use Rattle.pension.specs.Interface.{quoteForC, checkedForC, filedForC, FiledTextForC, foundForC, foundMemberForC};
 
 // The figures of a quote's four shares side by side, in the width that C has them.
 fn quote_for_c(quote: Quote) -> PensionQuote
@@ -130,11 +132,27 @@ pub extern "C" fn pension_find_number(register: &[u8], used: usize, number: u32)
     found_for_c(located)
 }
 
-// Where a member's newest line is: the same bytes that find_member hands back.
-#[no_mangle]
-pub extern "C" fn pension_find_member(register: &[u8], used: usize, member: u32) -> PensionFound
-    ensures { λ r. ⌜ (r ≡ foundForC (locate (hasMember member) (lent (now (register .entry)) used))) × (take (r .length) (drop (r .offset) (now (register .entry))) ≡ findLine (hasMember member) (lent (now (register .entry)) used)) ⌝ }
+fn found_member_for_c(found: LocatedMember) -> PensionFoundMember
+    ensures { λ r. ⌜ r ≡ foundMemberForC found ⌝ }
 {
-    let located = register::locate_member(register, used, member);
-    found_for_c(located)
+    let line = found_for_c(found.located);
+    PensionFoundMember {
+        refusal: line.refusal,
+        offset: line.offset,
+        length: line.length,
+        compared: found.compared,
+    }
+}
+
+// Where a member's newest line is: the same bytes that find_member hands back; and how many lines were compared.
+#[no_mangle]
+pub extern "C" fn pension_find_member(
+    register: &[u8],
+    used: usize,
+    member: u32,
+) -> PensionFoundMember
+    ensures { λ r. ⌜ (r ≡ foundMemberForC (locateMember member (lent (now (register .entry)) used))) × (take (r .length) (drop (r .offset) (now (register .entry))) ≡ findLine (hasMember member) (lent (now (register .entry)) used)) ⌝ }
+{
+    let found = register::locate_member(register, used, member);
+    found_member_for_c(found)
 }

@@ -1,6 +1,7 @@
 -- Finding a line, for any layout: the last that passes a test is the one at its place, where the test holds and behind which it
--- fails; a number's place among sound lines; and that the bytes where a line is located are the line found. By induction on the
--- lines. Assumes nothing.
+-- fails, and the lines older and newer than it with itself are all lines; a number's place among sound lines; what a find
+-- answers and how many lines it compares, by the check and by whether some line passes; and that the bytes where a line is
+-- located are the line found. By induction on the lines. Assumes nothing.
 use Prim.Native.Nat.{ℕ, zero, suc, _+_, _-_, _*_, _/_, _≤_, _<_}
 use mathlib.Core.Bool.{Bool, true, false, cond, _||_, or-false, false≢true}
 use mathlib.Core.List.{List, [], _∷_, _++_}
@@ -13,10 +14,11 @@ use borrow.Author.Tests.{eqb-true, eqb-false, eq-eqb, ne-eqb}
 use Rattle.calendar.specs.Tests.{any}
 use Rattle.calendar.proofs.TestsLaws.{or-left, or-right, any-snoc, none-any, some-any}
 use Rattle.register.specs.declared.answers.Located.{Located}
+use Rattle.register.specs.declared.answers.LocatedMember.{LocatedMember}
 use Rattle.register.specs.Line.{figureWidth, numberIn}
 use Rattle.register.specs.Layout.{Register, Layout, lengthOf, usedLinesBy}
 use Rattle.register.specs.Check.{checkLinesBy, checkBy}
-use Rattle.register.specs.Find.{hasNumber, lastWhere, lastPlace, findRefusalBy, findLineBy, locateBy}
+use Rattle.register.specs.Find.{hasNumber, hasMember, lastWhere, lastPlace, findRefusalBy, findLineBy, locateBy, newerLines, withFound, linesCompared, comparedBy, locateMemberBy}
 use Rattle.register.specs.Scan.{LastAt}
 use Rattle.register.proofs.LayoutLaws.{cut-count, cut-at}
 use Rattle.register.proofs.CheckLaws.{sound-number, check-sound}
@@ -50,6 +52,19 @@ module _ (f : List ℕ → Bool) where
       simp (none-any f ls [] (λ j i. behind (suc j) (omega arith) (omega arith)))
   last-at (l ∷ ls) (suc k) h here behind =
       simp (some-any f ls k [] (omega arith) here, last-at ls k (omega arith) here (λ j i m. behind (suc j) (omega arith) (omega arith)))
+
+  -- the lines older than it, itself and those newer are all lines
+  pub last-newer : (ls : List (List ℕ)) → any f ls ≡ true → lastPlace f ls + suc (newerLines f ls) ≡ length ls
+  unfolding lastPlace newerLines
+  last-newer [] e = absurd (false≢true e)
+  last-newer (l ∷ ls) e = go (any f ls) refl (last-newer ls)
+    where
+      go : (b : Bool) → any f ls ≡ b → (any f ls ≡ true → lastPlace f ls + suc (newerLines f ls) ≡ length ls)
+          → lastPlace f (l ∷ ls) + suc (newerLines f (l ∷ ls)) ≡ length (l ∷ ls)
+      go true a later = simp a (omega (arith, later a))
+      go false a later =
+          let here : f l ≡ true = sym (or-false (f l)) ∙ simp a at e in
+          simp (a, here) (omega arith)
 
   -- with one more line at the end
   pub place-snoc : (ls : List (List ℕ)) (l : List ℕ) → lastPlace f (ls ++ (l ∷ [])) ≡ cond (f l) (length ls) (lastPlace f ls)
@@ -95,29 +110,70 @@ module _ (y : Layout) (wide : figureWidth ≤ y .text) (ls : List (List ℕ)) (s
 
 module _ (y : Layout) (f : List ℕ → Bool) (r : Register) where
   -- by what the check gave, and by whether some line passes
-  pub locate-unsound : (checkBy y r .refusal ≡ 0 → ⊥) → locateBy y f r ≡ record { refusal = 11; offset = 0; length = 0 }
-  unfolding locateBy findRefusalBy
-  locate-unsound bad = simp (ne-eqb (checkBy y r .refusal) 0 bad)
+  pub by-finding : {P : Type 0} → ((checkBy y r .refusal ≡ 0 → ⊥) → P)
+      → (checkBy y r .refusal ≡ 0 → any f (usedLinesBy y r) ≡ false → P)
+      → (checkBy y r .refusal ≡ 0 → any f (usedLinesBy y r) ≡ true → P) → P
+  by-finding {P} unsound absent found = go (eqb (checkBy y r .refusal) 0) refl (any f (usedLinesBy y r)) refl
+    where
+      go : (b : Bool) → eqb (checkBy y r .refusal) 0 ≡ b → (a : Bool) → any f (usedLinesBy y r) ≡ a → P
+      go false bad a e = unsound (eqb-false (checkBy y r .refusal) 0 bad)
+      go true good false e = absent (eqb-true (checkBy y r .refusal) 0 good) e
+      go true good true e = found (eqb-true (checkBy y r .refusal) 0 good) e
+
+  -- in each of these cases: the refusal, where the line is, and how many lines are compared
+  module _ (bad : checkBy y r .refusal ≡ 0 → ⊥) where
+    pub refused-unsound : findRefusalBy y f r ≡ 11
+    unfolding findRefusalBy
+    refused-unsound = simp (ne-eqb (checkBy y r .refusal) 0 bad)
+
+    pub locate-unsound : locateBy y f r ≡ record { refusal = 11; offset = 0; length = 0 }
+    unfolding locateBy
+    locate-unsound = simp refused-unsound
+
+    pub compared-unsound : comparedBy y f r ≡ 0
+    unfolding comparedBy
+    compared-unsound = simp (ne-eqb (checkBy y r .refusal) 0 bad)
 
   module _ (sound : checkBy y r .refusal ≡ 0) where
-    pub locate-absent : any f (usedLinesBy y r) ≡ false → locateBy y f r ≡ record { refusal = 14; offset = 0; length = 0 }
-    unfolding locateBy findRefusalBy
-    locate-absent none = simp (sound, none)
+    pub compared-sound : comparedBy y f r ≡ linesCompared f (usedLinesBy y r)
+    unfolding comparedBy
+    compared-sound = simp sound
 
-    pub locate-found : any f (usedLinesBy y r) ≡ true
-        → locateBy y f r ≡ record { refusal = 0; offset = lastPlace f (usedLinesBy y r) * lengthOf y; length = lengthOf y }
-    unfolding locateBy findRefusalBy
-    locate-found some = simp (sound, some)
+    module _ (none : any f (usedLinesBy y r) ≡ false) where
+      pub refused-absent : findRefusalBy y f r ≡ 14
+      unfolding findRefusalBy
+      refused-absent = simp (sound, none)
+
+      pub locate-absent : locateBy y f r ≡ record { refusal = 14; offset = 0; length = 0 }
+      unfolding locateBy
+      locate-absent = simp refused-absent
+
+      pub compared-absent : comparedBy y f r ≡ length (usedLinesBy y r)
+      unfolding linesCompared
+      compared-absent = compared-sound ∙ simp none
+
+    module _ (some : any f (usedLinesBy y r) ≡ true) where
+      pub refused-none : findRefusalBy y f r ≡ 0
+      unfolding findRefusalBy
+      refused-none = simp (sound, some)
+
+      pub locate-found : locateBy y f r ≡ record { refusal = 0; offset = lastPlace f (usedLinesBy y r) * lengthOf y; length = lengthOf y }
+      unfolding locateBy
+      locate-found = simp refused-none
+
+      pub compared-found : comparedBy y f r ≡ withFound (newerLines f (usedLinesBy y r))
+      unfolding linesCompared
+      compared-found = compared-sound ∙ simp some
 
     -- a line that passes and behind which none does is the one found
     pub found-at : (k : ℕ) → k < length (usedLinesBy y r) → f (getD (usedLinesBy y r) k []) ≡ true
         → ((j : ℕ) → k < j → j < length (usedLinesBy y r) → f (getD (usedLinesBy y r) j []) ≡ false)
         → (findRefusalBy y f r ≡ 0) × (findLineBy y f r ≡ getD (usedLinesBy y r) k [])
-    unfolding findRefusalBy findLineBy
+    unfolding findLineBy
     found-at k h here behind =
         let some = some-any f (usedLinesBy y r) k [] h here in
         let last = last-at f (usedLinesBy y r) k h here behind in
-        simp (sound, some) (refl, last-line f (usedLinesBy y r) some .1 ∙ ap (λ (n : ℕ). getD (usedLinesBy y r) n []) last)
+        (refused-none some, simp sound (last-line f (usedLinesBy y r) some .1 ∙ ap (λ (n : ℕ). getD (usedLinesBy y r) n []) last))
 
   -- the bytes where a line is located are the line found, within the register; none under a refusal
   pub record Within (at : Located) : Type 0 where
@@ -126,35 +182,37 @@ module _ (y : Layout) (f : List ℕ → Bool) (r : Register) where
 
   located-line : Within (locateBy y f r)
   unfolding findLineBy
-  located-line = go (eqb (checkBy y r .refusal) 0) refl (any f (usedLinesBy y r)) refl
-    where
-      go : (b : Bool) → eqb (checkBy y r .refusal) 0 ≡ b → (a : Bool) → any f (usedLinesBy y r) ≡ a → Within (locateBy y f r)
-      go false bad a e =
-          rw (locate-unsound (eqb-false (checkBy y r .refusal) 0 bad))
-          (record { inside = omega arith; line = simp bad })
-      go true good false e =
-          let sound = eqb-true (checkBy y r .refusal) 0 good in
-          rw (locate-absent sound e) (record { inside = omega arith; line = simp good (sym (last-none f (usedLinesBy y r) e)) })
-      go true good true e =
-          let sound = eqb-true (checkBy y r .refusal) 0 good in
-          let last = last-line f (usedLinesBy y r) e in
-          let count = cut-count y (r .used / lengthOf y) (r .bytes) in
-          let place = lastPlace f (usedLinesBy y r) in
-          let inner : place < r .used / lengthOf y = omega arith in
-          let next : suc place ≤ r .used / lengthOf y = omega arith in
-          rw (locate-found sound e)
-          (record {
-            inside =
-                omega (
-                  arith,
-                  suc-mul place (lengthOf y),
-                  mul-le-mul-right (lengthOf y) next,
-                  div-add-mod' (r .used) (lengthOf y),
-                  check-sound y r sound .0,
-                );
-            line =
-                simp good (sym (last .1 ∙ cut-at y (r .used / lengthOf y) (r .bytes) place inner));
-          })
+  located-line =
+      by-finding
+      (λ bad. rw (locate-unsound bad) (record { inside = omega arith; line = simp (ne-eqb (checkBy y r .refusal) 0 bad) }))
+      (λ sound none.
+      rw (locate-absent sound none) (record { inside = omega arith; line = simp sound (sym (last-none f (usedLinesBy y r) none)) }))
+      (λ sound some.
+      let last = last-line f (usedLinesBy y r) some in
+      let count = cut-count y (r .used / lengthOf y) (r .bytes) in
+      let place = lastPlace f (usedLinesBy y r) in
+      let inner : place < r .used / lengthOf y = omega arith in
+      let next : suc place ≤ r .used / lengthOf y = omega arith in
+      rw (locate-found sound some)
+      (record {
+        inside =
+            omega (
+              arith,
+              suc-mul place (lengthOf y),
+              mul-le-mul-right (lengthOf y) next,
+              div-add-mod' (r .used) (lengthOf y),
+              check-sound y r sound .0,
+            );
+        line =
+            simp sound (sym (last .1 ∙ cut-at y (r .used / lengthOf y) (r .bytes) place inner));
+      }))
 
   pub located-within : (at : Located) → at ≡ locateBy y f r → Within at
   located-within at e = rw e located-line
+
+-- where a member's newest line is located, the bytes are that line
+pub member-within : (y : Layout) (member : ℕ) (r : Register) (found : LocatedMember) → found ≡ locateMemberBy y member r
+    → Within y (hasMember member) r (found .located)
+unfolding locateMemberBy
+member-within y member r found e =
+    located-within y (hasMember member) r (found .located) (ap (λ (x : LocatedMember). x .located) e)

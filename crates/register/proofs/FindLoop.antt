@@ -1,6 +1,6 @@
 -- Finding in the code's numbers, for any layout: from the last line down, the lines before a place and the line there make one
--- line more, and the last that passes a test is that one, or the last before it; figures of lines read in the register; and
--- what a find answers by a place. Assumes nothing.
+-- line more, and the last that passes a test is that one, or the last before it; the lines compared till then; figures of
+-- lines read in the register; and what a find answers by a place. Assumes nothing.
 use Prim.Native.Nat.{ℕ, suc, _+_, _-_, _*_, _/_, _≤_, _<_}
 use mathlib.Core.Bool.{Bool, true, false, or-true, or-false}
 use mathlib.Core.List.{List, [], _∷_, _++_, append-nil}
@@ -18,14 +18,16 @@ use Rattle.split.proofs.FrameLaws.{digit-known}
 use Rattle.split.proofs.HexLaws.{hex-length, hex-good, hex-back, number-same, number-other, number-part}
 use Rattle.register.specs.Line.{figureWidth, memberPlace, numberIn, memberIn}
 use Rattle.register.specs.declared.answers.Checked.{Checked}
+use Rattle.register.specs.declared.answers.Located.{Located}
+use Rattle.register.specs.declared.answers.LocatedMember.{LocatedMember}
 use Rattle.register.specs.Layout.{Register, Layout, lengthOf, cutLines, usedLinesBy}
 use Rattle.register.specs.Check.{checkLinesBy, checkBy}
-use Rattle.register.specs.Find.{lastPlace, hasMember, locateBy}
+use Rattle.register.specs.Find.{lastPlace, hasMember, locateBy, newerLines, withFound, linesCompared, comparedBy, locateMemberBy}
 use Rattle.register.specs.Scan.{DigitsAt, LastAt, placedBy}
 use Rattle.register.proofs.LayoutLaws.{lineAt, cut-count, cut-at, cut-snoc}
 use Rattle.register.proofs.CheckLaws.{sound-good, check-sound}
 use Rattle.register.proofs.CheckLoop.{line-number, good-digits}
-use Rattle.register.proofs.FindLaws.{place-snoc, locate-unsound, locate-absent, locate-found}
+use Rattle.register.proofs.FindLaws.{last-newer, place-snoc, locate-unsound, locate-absent, locate-found, compared-unsound, compared-sound}
 
 -- what n lines answer, the first i of them answer
 pub record Same (y : Layout) (f : List ℕ → Bool) (s : List ℕ) (n i : ℕ) : Type 0 where
@@ -65,6 +67,19 @@ module _ (y : Layout) (f : List ℕ → Bool) (s : List ℕ) (n i : ℕ) (same :
         found = λ a. absurd (omega (arith, cut-count y n s));
         absent = λ _. same .some ∙ simp e;
       }
+
+-- the lines that a search compared, by where it ended: the newer ones and the line found, or all
+module _ (f : List ℕ → Bool) (ls : List (List ℕ)) (place : ℕ) (last : LastAt f ls place) where
+  pub counted-hit : (newer : ℕ) → place + suc newer ≡ length ls → withFound newer ≡ linesCompared f ls
+  unfolding linesCompared
+  counted-hit newer e =
+      let found = last .found (omega arith) in
+      let same : newerLines f ls ≡ newer = omega (arith, last-newer f ls (found .0)) in
+      simp (found .0, same)
+
+  pub counted-none : length ls ≤ place → length ls ≡ linesCompared f ls
+  unfolding linesCompared
+  counted-none h = simp (last .absent h)
 
 -- a member that is written: its digits, and what comparing them with a line's tells of the line
 module _ (digits : List ℕ) (member : ℕ) (written : digits ≡ hexText figureWidth member) where
@@ -145,3 +160,18 @@ module _ (y : Layout) (r : Register) (checked : Checked) (e : checked ≡ checkB
               simp (le-ltb place (r .used / lengthOf y) (omega arith))
               (locate-absent y f r (same-check ∙ good) (last .absent (omega arith)))
         ]
+
+  -- the same of a member, with the lines compared
+  module _ (member : ℕ) (located : Located) where
+    pub member-unchecked : (checked .refusal ≡ 0 → ⊥) → located ≡ record { refusal = 11; offset = 0; length = 0 }
+        → record { located = located; compared = 0 } ≡ locateMemberBy y member r
+    unfolding locateMemberBy
+    member-unchecked h at =
+        simp (compared-unsound y (hasMember member) r (λ z. h (sym same-check ∙ z)), at, unchecked (hasMember member) h)
+
+    pub member-answered : checked .refusal ≡ 0 → (place compared : ℕ) → LastAt (hasMember member) (usedLinesBy y r) place
+        → compared ≡ linesCompared (hasMember member) (usedLinesBy y r) → located ≡ placedBy y (r .used) place
+        → record { located = located; compared = compared } ≡ locateMemberBy y member r
+    unfolding locateMemberBy
+    member-answered good place compared last count at =
+        simp (compared-sound y (hasMember member) r (same-check ∙ good), count, at, answered good (hasMember member) place last)

@@ -2,6 +2,7 @@
 -- every other file is named for the argument that it makes.
 pub mod CheckLaws
 pub mod CheckLoop
+pub mod Compared
 pub mod Demands
 pub mod Figures
 pub mod FileLaws

@@ -22,3 +22,10 @@ pub struct Located {
     pub offset: usize,
     pub length: usize,
 }
+
+// What finding a member's newest line gives: where it is, or the refusal and zeros, and how many lines were compared, from the
+// newest back: 0 under 11, all lines under 14.
+pub struct LocatedMember {
+    pub located: Located,
+    pub compared: usize,
+}

@@ -65,7 +65,10 @@ fn found_number(register: &[u8], used: usize, quote: u32) {
 fn found_member(register: &[u8], used: usize, member: u32) {
     text(register::find_member(register, used, member));
     let found = register::locate_member(register, used, member);
-    number(found.refusal as u64);
+    let located = found.located;
+    number(located.refusal as u64);
+    text(b", lines compared: ");
+    number(found.compared as u64);
     text(b"\n");
 }
 
@@ -90,7 +93,7 @@ fn main() {
     found_number(&register, used, 541);
     text(b"Number 542, which is absent: ");
     found_number(&register, used, 542);
-    text(b"The newest line of member 1 and its refusal:\n");
+    text(b"The newest line of member 1, its refusal and how many lines were compared:\n");
     found_member(&register, used, 1);
     text(b"Member 2, who is absent: ");
     found_member(&register, used, 2);

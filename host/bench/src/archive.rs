@@ -1,10 +1,14 @@
 //! An archive of the engine, made a shared object and loaded while the program
 //! runs. All that is unsafe in the benchmark is in this module.
 //!
-//! It is sound for a shared object that keeps `include/pension.h`: the types
-//! below are those of its calls, and the structs are those of [`engine`], which
-//! a test compares with the header. Objects are never unloaded, so that the
-//! addresses of their calls stay good.
+//! It is sound for a shared object that has the calls below as this checkout's
+//! `include/pension.h` has them: the types are those of the header, and the
+//! structs are those of [`engine`], which a test compares with it. An archive of
+//! another checkout keeps that checkout's header, which may differ. So
+//! `make compare` first compiles `calls.c`, which states the same calls and
+//! structs in C, with the headers of both checkouts, and ends if it can't. That
+//! an archive was made from its checkout as it stands is left to the caller.
+//! Objects are never unloaded, so that the addresses of their calls stay good.
 
 use std::ffi::{c_char, c_int, c_void, CStr, CString};
 use std::io;
@@ -12,7 +16,7 @@ use std::mem;
 use std::os::unix::ffi::OsStrExt;
 use std::path::{self, Path};
 
-use engine::{Checked, Found, Quote};
+use engine::{Checked, Found, FoundMember, Quote};
 
 use crate::implementations::Implementation;
 
@@ -29,15 +33,16 @@ const RTLD_LOCAL: c_int = 0;
 type QuoteCall = unsafe extern "C" fn(*const u8, usize) -> Quote;
 type CheckCall = unsafe extern "C" fn(*const u8, usize, usize) -> Checked;
 type FileAllCall = unsafe extern "C" fn(*mut u8, usize, *const u8, usize, *mut u8, usize) -> usize;
-type FindCall = unsafe extern "C" fn(*const u8, usize, usize, u32) -> Found;
+type FindNumberCall = unsafe extern "C" fn(*const u8, usize, usize, u32) -> Found;
+type FindMemberCall = unsafe extern "C" fn(*const u8, usize, usize, u32) -> FoundMember;
 
 /// The calls of a loaded archive.
 pub struct Archive {
     quote: QuoteCall,
     check: CheckCall,
     file_all: FileAllCall,
-    find_number: FindCall,
-    find_member: FindCall,
+    find_number: FindNumberCall,
+    find_member: FindMemberCall,
 }
 
 impl Archive {
@@ -118,7 +123,7 @@ impl Implementation for Archive {
         unsafe { (self.find_number)(register.as_ptr(), register.len(), register.len(), number) }
     }
 
-    fn find_member(&self, register: &[u8], member: u32) -> Found {
+    fn find_member(&self, register: &[u8], member: u32) -> FoundMember {
         unsafe { (self.find_member)(register.as_ptr(), register.len(), register.len(), member) }
     }
 }

@@ -1,16 +1,17 @@
 //! The jobs, done by both sides of a comparison.
 
+use std::fmt::Debug;
 use std::io;
 use std::path::PathBuf;
 
 use cases::registers::{own_member, LINE, NOBODY};
-use engine::Found;
+use engine::{Found, FoundMember};
 use reference::register::lines;
 use reference::Refusal;
 
 use crate::implementations::Implementation;
 use crate::programs::{run, Input};
-use crate::table::Table;
+use crate::table::{with_commas, Table};
 use crate::work::Effort;
 
 const FEW_LINES: usize = 10_000;
@@ -101,9 +102,10 @@ impl<L: Implementation, R: Implementation> Comparison<L, R> {
     /// Finds a line by its number; the first line has number 1.
     fn find_number(&self, register: &[u8], which: &str, line: usize) {
         let number = u32::try_from(line + 1).expect("a short register");
+        let expected = Found { refusal: 0, offset: line * LINE, length: LINE };
         self.find(
             &format!("find the {which} number in it"),
-            line_at(line),
+            expected,
             || self.left.calls.find_number(register, number),
             || self.right.calls.find_number(register, number),
         );
@@ -111,41 +113,42 @@ impl<L: Implementation, R: Implementation> Comparison<L, R> {
 
     /// Finds a line by its member, which no other line has.
     fn find_member(&self, register: &[u8], which: &str, line: usize) {
-        let member = own_member(line);
+        let compared = register.len() / LINE - line;
+        let expected = FoundMember { refusal: 0, offset: line * LINE, length: LINE, compared };
+        let job = format!("find the {which} line's member in it");
+        self.look_for_member(register, &job, own_member(line), expected);
+    }
+
+    /// Looks for a member that no line has.
+    pub fn find_nobody(&self, register: &[u8]) {
+        let refusal = u32::from(Refusal::Absent.number());
+        let compared = register.len() / LINE;
+        let expected = FoundMember { refusal, compared, ..FoundMember::default() };
+        self.look_for_member(register, "find an absent member in it", NOBODY, expected);
+    }
+
+    /// Looks for a member. The row tells how many lines are compared, so that
+    /// the count can be held against the time.
+    fn look_for_member(&self, register: &[u8], job: &str, member: u32, expected: FoundMember) {
+        let lines = if expected.compared == 1 { "line" } else { "lines" };
         self.find(
-            &format!("find the {which} line's member in it"),
-            line_at(line),
+            &format!("{job}: {} {lines} compared", with_commas(expected.compared)),
+            expected,
             || self.left.calls.find_member(register, member),
             || self.right.calls.find_member(register, member),
         );
     }
 
-    /// Looks for a member that no line has.
-    pub fn find_nobody(&self, register: &[u8]) {
-        let absent = Found { refusal: u32::from(Refusal::Absent.number()), ..Found::default() };
-        self.find(
-            "find an absent member in it",
-            absent,
-            || self.left.calls.find_member(register, NOBODY),
-            || self.right.calls.find_member(register, NOBODY),
-        );
-    }
-
-    fn find(
+    fn find<T: PartialEq + Debug>(
         &self,
         job: &str,
-        expected: Found,
-        left: impl Fn() -> Found,
-        right: impl Fn() -> Found,
+        expected: T,
+        left: impl Fn() -> T,
+        right: impl Fn() -> T,
     ) {
         assert_eq!(left(), expected, "{job}");
         self.table.print_whole(job, &self.effort.time(left, right));
     }
-}
-
-/// What finding gives for a line of a register.
-fn line_at(line: usize) -> Found {
-    Found { refusal: 0, offset: line * LINE, length: LINE }
 }
 
 /// What one side files into.

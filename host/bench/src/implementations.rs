@@ -1,7 +1,7 @@
 //! What does the jobs: the engine, as linked or as loaded, and the reference.
 
 use cases::answers;
-use engine::{Checked, Found, Quote};
+use engine::{Checked, Found, FoundMember, Quote};
 
 /// The calls that are timed. Registers are used to their last byte, but by
 /// `file_all`, which starts with an empty one.
@@ -19,7 +19,7 @@ pub trait Implementation {
 
     fn find_number(&self, register: &[u8], number: u32) -> Found;
 
-    fn find_member(&self, register: &[u8], member: u32) -> Found;
+    fn find_member(&self, register: &[u8], member: u32) -> FoundMember;
 }
 
 /// The engine's archive that this program is linked with.
@@ -42,7 +42,7 @@ impl Implementation for LinkedEngine {
         engine::find_number(register, register.len(), number)
     }
 
-    fn find_member(&self, register: &[u8], member: u32) -> Found {
+    fn find_member(&self, register: &[u8], member: u32) -> FoundMember {
         engine::find_member(register, register.len(), member)
     }
 }
@@ -72,7 +72,7 @@ impl Implementation for Reference {
         answers::find_number(register, register.len(), number)
     }
 
-    fn find_member(&self, register: &[u8], member: u32) -> Found {
+    fn find_member(&self, register: &[u8], member: u32) -> FoundMember {
         answers::find_member(register, register.len(), member)
     }
 }

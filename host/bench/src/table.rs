@@ -49,3 +49,22 @@ impl Table {
         println!("| {job} | {} | {} | {quotient:.2} |", show(timed.left), show(timed.right));
     }
 }
+
+/// A number with a comma before every three digits.
+pub fn with_commas(number: usize) -> String {
+    if number < 1_000 {
+        return number.to_string();
+    }
+    format!("{},{:03}", with_commas(number / 1_000), number % 1_000)
+}
+
+#[cfg(test)]
+mod tests {
+    use super::*;
+
+    #[test]
+    fn commas_before_every_three_digits() {
+        let printed = [0, 1, 999, 1_000, 826_446, 1_000_000, 12_003_045].map(with_commas);
+        assert_eq!(printed, ["0", "1", "999", "1,000", "826,446", "1,000,000", "12,003,045"]);
+    }
+}

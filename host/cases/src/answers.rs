@@ -2,9 +2,10 @@
 
 use std::ops::Range;
 
-use engine::{Checked, Filed, Found, Quote};
+use engine::{Checked, Filed, Found, FoundMember, Quote};
 use reference::money::{LumpPence, YearlyPence};
-use reference::{register as book, Refusal};
+use reference::register::{self as book, MemberSearch};
+use reference::Refusal;
 
 pub fn quote(line: &[u8]) -> Quote {
     match reference::quote(line) {
@@ -38,8 +39,14 @@ pub fn find_number(register: &[u8], used: usize, number: u32) -> Found {
     found(book::find_number(register, used, number))
 }
 
-pub fn find_member(register: &[u8], used: usize, member: u32) -> Found {
-    found(book::find_member(register, used, member))
+pub fn find_member(register: &[u8], used: usize, member: u32) -> FoundMember {
+    match book::find_member(register, used, member) {
+        Ok(MemberSearch { place, compared }) => {
+            let Found { refusal, offset, length } = found(place.ok_or(Refusal::Absent));
+            FoundMember { refusal, offset, length, compared }
+        }
+        Err(refusal) => FoundMember { refusal: number(refusal), ..FoundMember::default() },
+    }
 }
 
 fn found(found: Result<Range<usize>, Refusal>) -> Found {

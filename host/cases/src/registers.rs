@@ -35,10 +35,15 @@ pub fn set_number(register: &mut [u8], line: usize, number: u32) {
     set_field(&mut register[line * LINE..], number);
 }
 
+/// Writes a member into a line of a register.
+pub fn set_member(register: &mut [u8], line: usize, member: u32) {
+    set_field(&mut register[line * LINE + NUMBER_DIGITS..], member);
+}
+
 /// Gives every line of a register a member of its own.
 pub fn set_own_members(register: &mut [u8]) {
-    for (line, bytes) in register.chunks_exact_mut(LINE).enumerate() {
-        set_field(&mut bytes[NUMBER_DIGITS..], own_member(line));
+    for line in 0..register.len() / LINE {
+        set_member(register, line, own_member(line));
     }
 }
 

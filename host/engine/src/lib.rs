@@ -1,9 +1,9 @@
 //! The retirement quotation engine, called through its C interface.
 //!
 //! Each call takes slices and gives the C struct of the same subject. Under a
-//! refusal every figure but `refusal` is 0 (the offset of a check apart).
-//! [`optional`] holds the same calls for a host that lends a null pointer in
-//! place of an empty buffer.
+//! refusal every figure but `refusal` is 0 (the offset of a check, and the count
+//! of lines compared for an absent member, apart). [`optional`] holds the same
+//! calls for a host that lends a null pointer in place of an empty buffer.
 
 mod raw;
 
@@ -59,6 +59,18 @@ pub struct Found {
     pub length: usize,
 }
 
+/// A member's newest line that was found: its place in the caller's register,
+/// and how many lines were compared, starting from the newest. With refusal 14
+/// these are all lines, with refusal 11 none.
+#[repr(C)]
+#[derive(Clone, Copy, Debug, Default, PartialEq, Eq)]
+pub struct FoundMember {
+    pub refusal: u32,
+    pub offset: usize,
+    pub length: usize,
+    pub compared: usize,
+}
+
 /// Quotes one case line, its newline left out.
 pub fn quote(line: &[u8]) -> Quote {
     optional::quote(Some(line))
@@ -97,7 +109,7 @@ pub fn find_number(register: &[u8], used: usize, number: u32) -> Found {
     optional::find_number(Some(register), used, number)
 }
 
-/// Finds the newest register line of a member.
-pub fn find_member(register: &[u8], used: usize, member: u32) -> Found {
+/// Finds the newest register line of a member and counts the lines compared.
+pub fn find_member(register: &[u8], used: usize, member: u32) -> FoundMember {
     optional::find_member(Some(register), used, member)
 }

@@ -4,7 +4,7 @@
 use std::ptr;
 
 use crate::raw;
-use crate::{Checked, Filed, FiledLines, Found, Quote};
+use crate::{Checked, Filed, FiledLines, Found, FoundMember, Quote};
 
 fn parts(slice: Option<&[u8]>) -> (*const u8, usize) {
     slice.map_or((ptr::null(), 0), |bytes| (bytes.as_ptr(), bytes.len()))
@@ -87,7 +87,7 @@ pub fn find_number(register: Option<&[u8]>, used: usize, number: u32) -> Found {
     unsafe { raw::pension_find_number(register, register_length, used, number) }
 }
 
-pub fn find_member(register: Option<&[u8]>, used: usize, member: u32) -> Found {
+pub fn find_member(register: Option<&[u8]>, used: usize, member: u32) -> FoundMember {
     let (register, register_length) = parts(register);
     // SAFETY: as for `check`.
     unsafe { raw::pension_find_member(register, register_length, used, member) }

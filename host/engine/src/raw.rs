@@ -1,6 +1,6 @@
 //! The C declarations, one for one.
 
-use crate::{Checked, Filed, FiledLines, Found, Quote};
+use crate::{Checked, Filed, FiledLines, Found, FoundMember, Quote};
 
 extern "C" {
     pub fn pension_quote(line: *const u8, line_length: usize) -> Quote;
@@ -46,5 +46,5 @@ extern "C" {
         register_length: usize,
         used: usize,
         member: u32,
-    ) -> Found;
+    ) -> FoundMember;
 }

@@ -1,8 +1,9 @@
 //! Reference implementation of the retirement quotation engine for police
 //! pensions.
 //!
-//! It is written from the rules document alone and shares no code with the
-//! proved engine, so that the two can be held against each other.
+//! It is written from the rules document and the first of the change requests
+//! alone and shares no code with the proved engine, so that the two can be held
+//! against each other.
 //!
 //! Modules use one another in one direction: [`money`], [`factors`],
 //! [`calendar`], [`hexadecimal`] and [`refusals`], then [`case_line`],

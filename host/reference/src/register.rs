@@ -108,16 +108,30 @@ pub fn find_number(register: &[u8], used: usize, number: u32) -> Result<Range<us
     Ok(line_place(lines - 1 - newer))
 }
 
-/// Finds the newest line of a member: its place in the register.
-pub fn find_member(register: &[u8], used: usize, member: u32) -> Result<Range<usize>, Refusal> {
+/// What looking for a member's newest line came to.
+#[derive(Clone, Debug, PartialEq, Eq)]
+pub struct MemberSearch {
+    /// The line's place in the register, or none if the member is absent.
+    pub place: Option<Range<usize>>,
+    /// The lines compared, the one found included.
+    pub compared: usize,
+}
+
+/// Looks for a member from the newest line back, in a register that is checked
+/// first. Lines count as they are compared, not as they are checked.
+pub fn find_member(register: &[u8], used: usize, member: u32) -> Result<MemberSearch, Refusal> {
     check(register, used)?;
     let mut digits = [0; NUMBER_DIGITS];
     hexadecimal::write_number(member, &mut digits);
-    register[..used]
-        .chunks_exact(LINE_LENGTH)
-        .rposition(|line| line[MEMBER_PLACE] == digits)
-        .map(line_place)
-        .ok_or(Refusal::Absent)
+    let mut search = MemberSearch { place: None, compared: 0 };
+    for (place, line) in register[..used].chunks_exact(LINE_LENGTH).enumerate().rev() {
+        search.compared += 1;
+        if line[MEMBER_PLACE] == digits {
+            search.place = Some(line_place(place));
+            break;
+        }
+    }
+    Ok(search)
 }
 
 fn line_place(line: usize) -> Range<usize> {

@@ -6,7 +6,7 @@ mod common;
 use cases::fields::plain_case;
 use cases::registers::LINE;
 use common::guarded::{lend, lend_mut};
-use engine::{optional, Checked, Filed, FiledLines, Found, Quote};
+use engine::{optional, Checked, Filed, FiledLines, Found, FoundMember, Quote};
 
 /// Used lengths that no empty buffer has.
 const BEYOND: [usize; 7] =
@@ -17,6 +17,8 @@ const NO_SPACE: Filed = Filed { refusal: 12, used: 0 };
 const EMPTY_LINE: Filed = Filed { refusal: 2, used: 0 };
 const ABSENT: Found = Found { refusal: 14, offset: 0, length: 0 };
 const NOT_FOUND_IN_BAD_REGISTER: Found = Found { refusal: 11, offset: 0, length: 0 };
+const NO_MEMBER: FoundMember = FoundMember { refusal: 14, offset: 0, length: 0, compared: 0 };
+const NO_MEMBER_IN_BAD_REGISTER: FoundMember = FoundMember { refusal: 11, ..NO_MEMBER };
 
 /// An empty buffer in each way it can be lent: no pointer, and one to nothing.
 fn nothing() -> [Option<&'static [u8]>; 2] {
@@ -45,12 +47,12 @@ fn finding_in_nothing() {
     for register in nothing() {
         for wanted in [0, 1, u32::MAX] {
             assert_eq!(optional::find_number(register, 0, wanted), ABSENT);
-            assert_eq!(optional::find_member(register, 0, wanted), ABSENT);
+            assert_eq!(optional::find_member(register, 0, wanted), NO_MEMBER);
             for used in BEYOND {
                 let found = optional::find_number(register, used, wanted);
                 assert_eq!(found, NOT_FOUND_IN_BAD_REGISTER);
                 let found = optional::find_member(register, used, wanted);
-                assert_eq!(found, NOT_FOUND_IN_BAD_REGISTER);
+                assert_eq!(found, NO_MEMBER_IN_BAD_REGISTER);
             }
         }
     }

@@ -275,12 +275,14 @@ fn filed_lines_are_found_again() {
         for (line, &member) in members.iter().enumerate() {
             let found = assert_find_number(&filed.register, filed.used, line as u32 + 1);
             assert_eq!((found.refusal, found.offset), (0, line * LINE));
-            let newest = members.iter().rposition(|&other| other == member);
+            let newer = members.iter().rev().take_while(|&&other| other != member).count();
             let found = assert_find_member(&filed.register, filed.used, member);
-            assert_eq!((found.refusal, Some(found.offset)), (0, newest.map(|line| line * LINE)));
+            let (offset, compared) = ((49 - newer) * LINE, newer + 1);
+            assert_eq!((found.refusal, found.offset, found.compared), (0, offset, compared));
         }
         assert_eq!(assert_find_number(&filed.register, filed.used, 51).refusal, 14);
-        assert_eq!(assert_find_member(&filed.register, filed.used, NOBODY).refusal, 14);
+        let nobody = assert_find_member(&filed.register, filed.used, NOBODY);
+        assert_eq!((nobody.refusal, nobody.compared), (14, 50));
     }
 }
 

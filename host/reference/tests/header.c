@@ -14,7 +14,8 @@ static struct pension_filed_lines (*const file_lines)(uint8_t *, size_t, size_t,
                                                       uint8_t *, size_t) = pension_file_lines;
 static size_t (*const file_all)(uint8_t *, size_t, const uint8_t *, size_t, uint8_t *, size_t) = pension_file_all;
 static struct pension_found (*const find_number)(const uint8_t *, size_t, size_t, uint32_t) = pension_find_number;
-static struct pension_found (*const find_member)(const uint8_t *, size_t, size_t, uint32_t) = pension_find_member;
+static struct pension_found_member (*const find_member)(const uint8_t *, size_t, size_t,
+                                                        uint32_t) = pension_find_member;
 
 /* Cases of document 01, by member: the example of the program, a kind 2 pension,
  * and kind 1 with kind 3. */
@@ -66,6 +67,11 @@ static void print_structs(void)
     FIELD(pension_found, refusal);
     FIELD(pension_found, offset);
     FIELD(pension_found, length);
+    STRUCT(pension_found_member);
+    FIELD(pension_found_member, refusal);
+    FIELD(pension_found_member, offset);
+    FIELD(pension_found_member, length);
+    FIELD(pension_found_member, compared);
 }
 
 static void print_constants(void)
@@ -157,12 +163,18 @@ static void try_find(const uint8_t *register_bytes)
     struct pension_found no_number = find_number(register_bytes, ROOM, ROOM, 4);
     EXPECT(no_number.refusal == PENSION_ABSENT && no_number.offset == 0 && no_number.length == 0);
 
-    struct pension_found newest = find_member(register_bytes, ROOM, ROOM, 1);
+    struct pension_found_member newest = find_member(register_bytes, ROOM, ROOM, 1);
     EXPECT(newest.refusal == PENSION_GRANTED && newest.offset == 2 * LINE && newest.length == LINE);
-    struct pension_found older = find_member(register_bytes, ROOM, 2 * LINE, 1);
+    EXPECT(newest.compared == 1);
+    struct pension_found_member older = find_member(register_bytes, ROOM, 2 * LINE, 1);
     EXPECT(older.refusal == PENSION_GRANTED && older.offset == 0 && older.length == LINE);
-    struct pension_found no_member = find_member(register_bytes, ROOM, ROOM, 3);
+    EXPECT(older.compared == 2);
+    struct pension_found_member no_member = find_member(register_bytes, ROOM, ROOM, 3);
     EXPECT(no_member.refusal == PENSION_ABSENT && no_member.offset == 0 && no_member.length == 0);
+    EXPECT(no_member.compared == 3);
+    struct pension_found_member no_line = find_member(register_bytes, ROOM, 0, 1);
+    EXPECT(no_line.refusal == PENSION_ABSENT && no_line.offset == 0 && no_line.length == 0);
+    EXPECT(no_line.compared == 0);
 }
 
 /* Damages the register's second line. */
@@ -178,6 +190,10 @@ static void try_check(uint8_t *register_bytes)
     EXPECT(bad_line.refusal == PENSION_BAD_REGISTER && bad_line.offset == LINE + 9);
     struct pension_found not_found = find_number(register_bytes, ROOM, ROOM, 1);
     EXPECT(not_found.refusal == PENSION_BAD_REGISTER && not_found.length == 0);
+    /* The newest line, which is good, has the member. */
+    struct pension_found_member not_looked_for = find_member(register_bytes, ROOM, ROOM, 1);
+    EXPECT(not_looked_for.refusal == PENSION_BAD_REGISTER && not_looked_for.offset == 0);
+    EXPECT(not_looked_for.length == 0 && not_looked_for.compared == 0);
 }
 
 /* The lines of a text, filed one by one, all into an empty register, and behind
@@ -205,7 +221,8 @@ static void try_texts(void)
     EXPECT(refusals[0] == PENSION_GRANTED && refusals[1] == PENSION_BAD_LENGTH);
     EXPECT(refusals[2] == UNTOUCHED && refusals[3] == UNTOUCHED);
     EXPECT(check(together, ROOM, more.used).refusal == PENSION_GRANTED);
-    EXPECT(find_member(together, ROOM, more.used, 2).offset == LINE);
+    struct pension_found_member found = find_member(together, ROOM, more.used, 2);
+    EXPECT(found.offset == LINE && found.compared == 2);
 }
 
 int main(void)

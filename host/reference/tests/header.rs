@@ -3,28 +3,40 @@
 
 use std::env;
 use std::fmt::Write;
+use std::fs;
 use std::mem::{offset_of, size_of};
 use std::path::{Path, PathBuf};
 use std::process::Command;
 
-use engine::{Checked, Filed, FiledLines, Found, Quote, MOST_PENSIONS};
+use engine::{Checked, Filed, FiledLines, Found, FoundMember, Quote, MOST_PENSIONS};
 use reference::{case_line, register, Refusal};
 
 /// Every warning is an error.
 const FLAGS: [&str; 7] =
     ["-std=c11", "-O2", "-Wall", "-Wextra", "-Wpedantic", "-Wconversion", "-Werror"];
 
+/// A file of this package, or, through `..`, of one beside it.
+fn file(name: &str) -> PathBuf {
+    Path::new(env!("CARGO_MANIFEST_DIR")).join(name)
+}
+
+/// A file that a test makes.
+fn made_file(name: &str) -> PathBuf {
+    Path::new(env!("CARGO_TARGET_TMPDIR")).join(name)
+}
+
+/// The C compiler, on a file that includes the header in a folder.
+fn compiler(source: &Path, include: &Path) -> Command {
+    let mut compiler = Command::new(env::var_os("CC").unwrap_or_else(|| "cc".into()));
+    compiler.args(FLAGS).arg("-I").arg(include).arg(source);
+    compiler
+}
+
 /// Compiles header.c with the header and links it with the engine's archive.
 fn compiled_program() -> PathBuf {
-    let package = Path::new(env!("CARGO_MANIFEST_DIR"));
-    let program = Path::new(env!("CARGO_TARGET_TMPDIR")).join("header");
-    let compiler = env::var_os("CC").unwrap_or_else(|| "cc".into());
-    let status = Command::new(compiler)
-        .args(FLAGS)
-        .arg("-I")
-        .arg(package.join("../include"))
-        .arg(package.join("tests/header.c"))
-        .arg(package.join("../../target/staticlib/libpension.a"))
+    let program = made_file("header");
+    let status = compiler(&file("tests/header.c"), &file("../include"))
+        .arg(file("../../target/staticlib/libpension.a"))
         .arg("-o")
         .arg(&program)
         .status()
@@ -57,6 +69,7 @@ fn structs() -> String {
     write_struct!(text, "pension_filed", Filed: refusal, used);
     write_struct!(text, "pension_filed_lines", FiledLines: used, lines);
     write_struct!(text, "pension_found", Found: refusal, offset, length);
+    write_struct!(text, "pension_found_member", FoundMember: refusal, offset, length, compared);
     text
 }
 
@@ -103,4 +116,36 @@ fn the_header_for_c() {
     assert_eq!(printed, expected);
     assert_eq!(output.stderr.escape_ascii().to_string(), "");
     assert!(output.status.success(), "header.c ended with {}", output.status);
+}
+
+/// Whether the benchmark's calls.c compiles with a header of this text.
+fn timed_calls_compile(header: &str) -> bool {
+    let include = made_file("include");
+    fs::create_dir_all(&include).expect("a folder can be made");
+    fs::write(include.join("pension.h"), header).expect("a file can be written");
+    let mut compiler = compiler(&file("../bench/calls.c"), &include);
+    let output = compiler.arg("-fsyntax-only").output().expect("a C compiler starts");
+    output.status.success()
+}
+
+/// The benchmark's calls.c compiles with the header, and not where a call that is
+/// timed has another type.
+#[test]
+fn the_calls_that_are_timed() {
+    let header = fs::read_to_string(file("../include/pension.h")).expect("the header is there");
+    assert!(timed_calls_compile(&header), "calls.c does not compile with pension.h");
+    let changes = [
+        (
+            "struct pension_found_member pension_find_member",
+            "struct pension_found pension_find_member",
+        ),
+        ("size_t used, uint32_t member", "size_t used, uint64_t member"),
+        ("size_t compared;", "uint32_t compared;"),
+        ("size_t compared;", "size_t compared, checked;"),
+        ("struct pension_checked {", "struct pension_checked { uint64_t lines;"),
+    ];
+    for (here, other) in changes {
+        assert!(header.contains(here), "{here}");
+        assert!(!timed_calls_compile(&header.replace(here, other)), "calls.c takes: {other}");
+    }
 }

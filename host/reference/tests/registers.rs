@@ -4,8 +4,11 @@ mod common;
 
 use cases::fields::plain_case;
 use cases::generator::Generator;
-use cases::registers::{set_number, sound_register, LINE, MEMBERS, NOBODY};
+use cases::registers::{
+    own_member, set_member, set_number, set_own_members, sound_register, LINE, MEMBERS, NOBODY,
+};
 use common::compare::{assert_check, assert_file, assert_find_member, assert_find_number};
+use engine::FoundMember;
 
 /// Bytes that damage a digit or a newline, and two that may only change one.
 const DAMAGES: &[u8] = b"a\0\n\rG/:@ \x80\xFF0F";
@@ -70,10 +73,88 @@ fn lines_found_are_the_right_ones() {
         let digits = format!("{member:08X}").into_bytes();
         let newest = (0..20).rev().find(|line| register[line * LINE + 8..][..8] == digits);
         let found = assert_find_member(&register, used, member);
-        let expected = newest.map_or((14, 0, 0), |line| (0, line * LINE, LINE));
-        assert_eq!((found.refusal, found.offset, found.length), expected);
+        assert_eq!(found, newest.map_or(absent(20), |line| found_at(line, 20 - line)));
     }
-    assert_eq!(assert_find_member(&register, used, NOBODY).refusal, 14);
+    assert_eq!(assert_find_member(&register, used, NOBODY), absent(20));
+}
+
+/// The answer for a member whose newest line is `line`, counted from 0.
+fn found_at(line: usize, compared: usize) -> FoundMember {
+    FoundMember { refusal: 0, offset: line * LINE, length: LINE, compared }
+}
+
+/// The answer for a member who has no line.
+fn absent(compared: usize) -> FoundMember {
+    FoundMember { refusal: 14, offset: 0, length: 0, compared }
+}
+
+/// The answer for every member of a bad register.
+const NOT_LOOKED_FOR: FoundMember = FoundMember { refusal: 11, offset: 0, length: 0, compared: 0 };
+
+#[test]
+fn lines_compared_for_a_member() {
+    let mut random = Generator::for_test("lines_compared_for_a_member");
+    // The members line by line, the member looked for, and the answer.
+    let searches: [(&[u32], u32, FoundMember); 12] = [
+        (&[], 5, absent(0)),
+        (&[5], 5, found_at(0, 1)),
+        (&[5], 6, absent(1)),
+        (&[5, 6, 7], 7, found_at(2, 1)),
+        (&[5, 6, 7], 6, found_at(1, 2)),
+        (&[5, 6, 7], 5, found_at(0, 3)),
+        (&[5, 6, 7], 8, absent(3)),
+        (&[5, 5, 5, 5], 5, found_at(3, 1)),
+        (&[5, 6, 5, 7, 8], 5, found_at(2, 3)),
+        // Members that differ in one digit, and a quote number for a member.
+        (&[0x1000_0005, 0x0005_0005, 0x0000_0004], 5, absent(3)),
+        (&[9, 9, 9], 2, absent(3)),
+        (&[2, 9, 9], 2, found_at(0, 3)),
+    ];
+    for (members, member, expected) in searches {
+        let mut register = sound_register(&mut random, members.len(), 1);
+        for (line, &member) in members.iter().enumerate() {
+            set_member(&mut register, line, member);
+        }
+        let found = assert_find_member(&register, register.len(), member);
+        assert_eq!(found, expected, "{member} among {members:?}");
+    }
+}
+
+/// Lines past the used length are neither looked at nor counted, whether they
+/// are sound or not.
+#[test]
+fn members_at_every_place_and_used_length() {
+    let mut random = Generator::for_test("members_at_every_place_and_used_length");
+    let mut sound = sound_register(&mut random, 20, 1000);
+    set_own_members(&mut sound);
+    for lines in 0..=20 {
+        let used = lines * LINE;
+        let spoilt = [&sound[..used], &random.bytes(sound.len() - used)].concat();
+        for register in [&sound, &spoilt] {
+            for line in 0..20 {
+                let found = assert_find_member(register, used, own_member(line));
+                let is_used = line < lines;
+                let expected = if is_used { found_at(line, lines - line) } else { absent(lines) };
+                assert_eq!(found, expected);
+            }
+            assert_eq!(assert_find_member(register, used, NOBODY), absent(lines));
+        }
+    }
+}
+
+/// Counts on both sides of the most that 16 bits hold.
+#[test]
+fn lines_compared_in_a_long_register() {
+    const LINES: usize = 70_000;
+    let mut random = Generator::for_test("lines_compared_in_a_long_register");
+    let mut register = sound_register(&mut random, LINES, 1);
+    set_own_members(&mut register);
+    for compared in [1, 65_535, 65_536, 65_537, LINES] {
+        let line = LINES - compared;
+        let found = assert_find_member(&register, register.len(), own_member(line));
+        assert_eq!(found, found_at(line, compared));
+    }
+    assert_eq!(assert_find_member(&register, register.len(), NOBODY), absent(LINES));
 }
 
 /// Lines and first numbers of the registers that are damaged.
@@ -95,6 +176,25 @@ fn damage_at_every_character() {
                 register[offset] = damage;
                 assert_calls(&register, used, &numbers, &[7, NOBODY]);
                 assert_damage(&register, used, offset);
+            }
+            register[offset] = whole;
+        }
+    }
+}
+
+/// The whole register is checked before any line is compared, even where the
+/// newest would answer at once.
+#[test]
+fn damage_comes_before_finding_a_member() {
+    let mut random = Generator::for_test("damage_comes_before_finding_a_member");
+    for (lines, first) in DAMAGED {
+        let mut register = sound_register(&mut random, lines, first);
+        set_own_members(&mut register);
+        let used = register.len();
+        for offset in 0..used {
+            let whole = std::mem::replace(&mut register[offset], b'x');
+            for member in [own_member(lines - 1), own_member(0), NOBODY] {
+                assert_eq!(assert_find_member(&register, used, member), NOT_LOOKED_FOR);
             }
             register[offset] = whole;
         }
@@ -219,6 +319,7 @@ fn used_lengths() {
             let checked = assert_check(register, used);
             if used > length || used % LINE != 0 {
                 assert_eq!((checked.refusal, checked.offset), (11, used));
+                assert_eq!(assert_find_member(register, used, NOBODY), NOT_LOOKED_FOR);
             }
             assert_calls(register, used, &[1, 2], &[1, NOBODY]);
         }

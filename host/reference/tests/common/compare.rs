@@ -5,7 +5,8 @@ use std::thread;
 
 use cases::answers;
 use cases::fields::CaseFields;
-use engine::{Checked, Filed, Found, Quote};
+use cases::registers::LINE;
+use engine::{Checked, Filed, Found, FoundMember, Quote};
 
 use super::guarded::{lend, lend_mut};
 
@@ -62,12 +63,30 @@ pub fn assert_find_number(register: &[u8], used: usize, number: u32) -> Found {
     found
 }
 
-/// Finds a member's newest line with both and gives what they agree on.
-pub fn assert_find_member(register: &[u8], used: usize, member: u32) -> Found {
+/// Finds a member's newest line with both and gives what they agree on. Asserts
+/// too that length and count are what the rules give for such a refusal and
+/// offset.
+pub fn assert_find_member(register: &[u8], used: usize, member: u32) -> FoundMember {
     let _input = Input { register, used, text: &[] };
     let found = lend(register, |register| engine::find_member(register, used, member));
     assert_eq!(found, answers::find_member(register, used, member), "member {member:08X}");
+    assert_eq!(found, figures_by_rule(&found, used / LINE), "member {member:08X}");
     found
+}
+
+/// What finding a member in a register of some lines gives, by where its newest
+/// line is or why there is none.
+fn figures_by_rule(found: &FoundMember, lines: usize) -> FoundMember {
+    let &FoundMember { refusal, offset, .. } = found;
+    let none = FoundMember { refusal, offset: 0, length: 0, compared: 0 };
+    match refusal {
+        0 => {
+            let newer = lines - 1 - offset / LINE;
+            FoundMember { refusal, offset, length: LINE, compared: newer + 1 }
+        }
+        14 => FoundMember { compared: lines, ..none },
+        _ => none,
+    }
 }
 
 /// Files a line with both, starting from the same bytes. Asserts that both
