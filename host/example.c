@@ -1,21 +1,26 @@
-/* Quotes a case, files it with two others, finds lines again by number and by
- * member, and prints it all: money in pounds and pence, and how many lines were
- * compared to find a member. */
+/* Quotes a case, and one that the lump sum allowance cuts, files both with two
+ * others, finds lines again by number and by member, and prints it all: money in
+ * pounds and pence, and how many lines were compared to find a member. */
 #include <inttypes.h>
 #include <stdio.h>
 #include <string.h>
 
 #include "pension.h"
 
-/* Cases of members 1, 2 and 3. The first is a 1987 pension of £30,000.00 a year,
- * taken at 53 years and 16 days. */
+/* Cases of members 1 to 4. The first is a 1987 pension of £30,000.00 a year, taken
+ * at 53 years and 16 days. The last is one of £100,000.00 taken on 6 April 2024, and
+ * its line ends with £168,275.00 already used of the allowance of £268,275.00. */
 static const char *const case_lines[] = {
     "0000000107B2060F07E707010101002DC6C007C9060107E70701000000000000000000",
     "0000000207B2060F07E7070101020030D40007C9060107E70701000A4408E8036803E8",
     "0000000307B2060F07E707010101001E848007C9060107E70701000000000000000000",
+    "0000000407B2060F07E8040601010098968007C9060107E707010000000000000000000100C46C",
 };
 
 enum { CASES = sizeof case_lines / sizeof case_lines[0] };
+
+/* What the last case has left of the allowance, in pence. */
+enum { ALLOWANCE_LEFT = 10000000 };
 
 static uint8_t register_bytes[100 * PENSION_LINE_LENGTH];
 
@@ -24,11 +29,13 @@ static void print_amount(const char *what, uint64_t pence)
     printf("  %-20s %10" PRIu64 ".%02" PRIu64 "\n", what, pence / 100, pence % 100);
 }
 
-static int print_quote(struct pension_quote quote)
+/* Quotes a case, prints the figures and gives the total, or 0 if it is refused. */
+static uint64_t print_quote(const char *case_line)
 {
+    struct pension_quote quote = pension_quote((const uint8_t *)case_line, strlen(case_line));
     if (quote.refusal != PENSION_GRANTED) {
         printf("refused with %" PRIu32 "\n", quote.refusal);
-        return 1;
+        return 0;
     }
     printf("quote for member %" PRIu32 ", in pounds\n", quote.member);
     print_amount("total lump sum", quote.total);
@@ -40,7 +47,7 @@ static int print_quote(struct pension_quote quote)
         print_amount("  remaining a year", quote.remaining[k]);
         print_amount("  second instalment", quote.second[k]);
     }
-    return 0;
+    return quote.total;
 }
 
 /* Files every case and gives the used length, or 0 if one is refused. */
@@ -90,17 +97,21 @@ static uint32_t find_member(size_t used, uint32_t member)
 
 int main(void)
 {
-    if (print_quote(pension_quote((const uint8_t *)case_lines[0], strlen(case_lines[0]))))
+    if (print_quote(case_lines[0]) == 0)
+        return 1;
+
+    /* The rest of the allowance is less than the pension could give. */
+    if (print_quote(case_lines[CASES - 1]) != ALLOWANCE_LEFT)
         return 1;
 
     size_t used = file_cases();
     if (used == 0)
         return 1;
 
-    /* Member 3 has the newest line and member 1 the oldest; 4 has none. */
+    /* Member 4 has the newest line and member 1 the oldest; 5 has none. */
     return find_number(used, 1) != PENSION_GRANTED
-        || find_member(used, 3) != PENSION_GRANTED
+        || find_member(used, 4) != PENSION_GRANTED
         || find_member(used, 1) != PENSION_GRANTED
-        || find_member(used, 4) != PENSION_ABSENT
+        || find_member(used, 5) != PENSION_ABSENT
         || fflush(stdout) != 0 || ferror(stdout);
 }

@@ -3,6 +3,13 @@
  *
  * Link with libpension.a, which `rt staticlib pension` writes to target/staticlib/.
  *
+ * Case lines. A case line is uppercase hexadecimal digits: 26 for the case and 44
+ * for each of its pensions. It may end with 8 more: the pence already used of the
+ * lump sum allowance; without them nothing is used. For a commencement on or after
+ * 6 April 2024 the lump sums total at most 26,827,500 less what was used, or 0 if
+ * more was used; second instalments do not count. Earlier commencements have no
+ * such limit and ignore the amount.
+ *
  * What the engine is lent. Every pointer is lent for the length of the call
  * alone; nothing is kept afterwards. Each pointer must have its length in bytes
  * behind it, and may be NULL where that is 0. Buffers of one call must not
@@ -38,8 +45,9 @@ extern "C" {
 /* A register line with its newline, in bytes. */
 #define PENSION_LINE_LENGTH 121
 
-/* The longest case line, in characters, its newline not counted. */
-#define PENSION_CASE_LENGTH 202
+/* The longest case line, in characters, its newline not counted: of four pensions
+ * and with the used part of the allowance. */
+#define PENSION_CASE_LENGTH 210
 
 /* The most pensions a case has. */
 #define PENSION_MOST 4
@@ -48,7 +56,8 @@ extern "C" {
 enum pension_refusal {
     PENSION_GRANTED = 0,         /* no refusal */
     PENSION_BAD_CHARACTER = 1,   /* a character is not 0-9 or A-F */
-    PENSION_BAD_LENGTH = 2,      /* not 70, 114, 158 or 202 characters, or the count disagrees */
+    PENSION_BAD_LENGTH = 2,      /* not 70, 78, 114, 122, 158, 166, 202 or 210 characters, or the
+                                    count of pensions disagrees */
     PENSION_BAD_DATE = 3,        /* a date is not in the calendar, 1900 to 2199 */
     PENSION_BAD_ORDER = 4,       /* not birth < start <= end <= commencement */
     PENSION_BAD_AGE = 5,         /* age outside 216 to 1,199 months */

@@ -36,13 +36,13 @@ pub not-true-false : (b : Bool) → (b ≡ true → ⊥) → b ≡ false
 not-true-false true h = absurd (h refl)
 not-true-false false h = refl
 
--- a choice by whether a number is 0
+-- a choice by a test, and by whether a number is 0
+pub by-test : {A : Type 0} (P : A → Type 0) (t : Bool) (x y : A) → (t ≡ true → P x) → (t ≡ false → P y) → P (cond t x y)
+by-test P true x y holds fails = holds refl
+by-test P false x y holds fails = fails refl
+
 pub by-zero : {A : Type 0} (P : A → Type 0) (r : ℕ) (x y : A) → (r ≡ 0 → P x) → ((r ≡ 0 → ⊥) → P y) → P (cond (eqb r 0) x y)
-by-zero P r x y none some = go (eqb r 0) refl
-  where
-    go : (b : Bool) → eqb r 0 ≡ b → P (cond b x y)
-    go true e = none (eqb-true r 0 e)
-    go false e = some (eqb-false r 0 e)
+by-zero P r x y none some = by-test P (eqb r 0) x y (λ e. none (eqb-true r 0 e)) (λ e. some (eqb-false r 0 e))
 
 -- two bounds that were tested together
 pub within-bounds : (low high x : ℕ) → within low high x ≡ true → (low ≤ x) × (x ≤ high)

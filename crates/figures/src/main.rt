@@ -1,4 +1,5 @@
-// Worked examples of the source documents, run through the engine, with what each document prints beside them.
+// Worked examples of the source documents and of the allowance, run through the engine, with what each document prints, or
+// the rule gives, beside them.
 use calendar::Date;
 use factors::money::YearlyPence;
 use libc::STDOUT_FILENO;
@@ -69,6 +70,37 @@ fn examples() {
     text(b" (printed: 163,267)\n");
 }
 
+// Document 001 finds its Examples 2 and 3 within 268,275 pounds; they commence before the day from which that limit holds.
+fn overall_limit() {
+    text(b"Document 001, example 2: ");
+    tax_free(b"0000000807B30C0F07E70C0F0101002DC6C007C90C0F07E70C0F000A1E000000000000");
+    text(b" (printed: 159,058, within 268,275)\nDocument 001, example 3: ");
+    tax_free(b"0000000907B4061E07E70A0F01020030D40007C8010107E60101000A4408E8036803E8");
+    text(b" (printed: 170,151, within 268,275)\n");
+}
+
+// The total lump of a case line, to the penny.
+fn total_lump(line: &[u8]) {
+    let quote = split::quote(line);
+    let total = quote.total;
+    pounds(total.0);
+    text(b" pounds");
+}
+
+fn allowance() {
+    text(b"60,000 pounds a year from 6 April 2024: ");
+    total_lump(b"0000000A07B0060F07E804060101005B8D8007C9060107E706010009C4000000000000");
+    text(b" (allowance: 268,275.00)\n  with 200,000 pounds of it used: ");
+    total_lump(b"0000000A07B0060F07E804060101005B8D8007C9060107E706010009C400000000000001312D00");
+    text(b" (left: 68,275.00)\n  with all of it used: ");
+    total_lump(b"0000000A07B0060F07E804060101005B8D8007C9060107E706010009C400000000000001995AEC");
+    text(b" (left: 0)\n  with more than it used: ");
+    total_lump(b"0000000A07B0060F07E804060101005B8D8007C9060107E706010009C4000000000000FFFFFFFF");
+    text(b" (left: 0)\n  from 5 April 2024, with more than it used: ");
+    total_lump(b"0000000A07B0060F07E804050101005B8D8007C9060107E706010009C4000000000000FFFFFFFF");
+    text(b" (no allowance: 20 x 60,000 / 3.8)\n");
+}
+
 fn refusals() {
     text(b"Empty line: ");
     refusal(b"");
@@ -94,6 +126,8 @@ fn totals() {
 fn main() {
     early_retirement();
     examples();
+    overall_limit();
+    allowance();
     refusals();
     totals();
 }

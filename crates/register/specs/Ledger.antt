@@ -64,7 +64,7 @@ pub record LineClaim (number : ℕ) (f : Filing) (l : List ℕ) : Type 0 where
   pub text : l ≡ lineFor number (f .line)
   -- read back from its digits it gives that number, that member and those figures
   pub read : figuresIn l ≡ figuresFor number (f .line)
-  -- its lumps keep the caps and the limits and no rival does better: see `BestLumps`
+  -- its lumps keep the caps, the allowance and the limits, and no rival that keeps them does better: see `BestLumps`
   pub best : BestLumps (f .line) (lumpsInLine l) (totalIn l)
 
 -- What is claimed of a list of filings fs in a register that starts empty, with the bytes s: the answers that the filings gave and

@@ -4,15 +4,19 @@ use Prim.Native.Nat.{ℕ, zero, suc, _+_, _-_, _*_, _/_, _≤_, _<_, min}
 use mathlib.Core.Bool.{Bool, true, false, cond, _&&_, _||_}
 use mathlib.Core.List.{List, _∷_, map}
 use mathlib.Core.Path.{_≡_, refl, sym, _∙_, ap}
+use native.Mathlib.Nat.{le-trans, mul-le-mul-right}
 use native.Mathlib.Omega.{arith}
 use lib.Dec.{eqb}
 use lib.ListN.{length, getD, take, drop, set, length-take, length-drop, drop-of-length-le}
 use lib.Seq.{drop-cons, take-set-lt, getD-take, getD-drop, length-take-le}
 use borrow.Author.Tests.{lt-ltb, le-ltb, eqb-false, ne-eqb}
+use Rattle.split.specs.declared.allowance.Allowance.{Allowance}
 use Rattle.split.specs.declared.limits.Benefit.{Benefit}
+use Rattle.split.specs.Allowance.{allowed, afterLump}
 use Rattle.split.specs.Limits.{pricedLimit}
 use Rattle.split.specs.Arrays.{rowsIn}
 use Rattle.split.specs.Grant.{Row, noRow, rowOf, goesFirst, served, cheapest, most, turns, lumpsOf, grant, rowAt, serve}
+use Rattle.split.proofs.AllowanceLaws.{allowed-at-most}
 use Rattle.split.proofs.Rows.{cheapest-inside}
 use Rattle.split.proofs.Turns.{most-affordable}
 use Rattle.split.proofs.ArraysLaws.{Sized, rows-counted, row-at, row-served}
@@ -95,48 +99,51 @@ place-start rs zero best h found = omega arith
 place-start rs (suc i) best h found = absurd (omega arith)
 
 -- a turn of the array is a turn of its first n rows
-pub turns-next : (n m k place left rest : ℕ) (rs after : List Row) → m ≡ suc k → place < n → n ≤ length rs
-    → place ≡ cheapest (take n rs) → after ≡ serve rs place (most (rowAt rs place) left)
-    → rest ≡ left - most (rowAt rs place) left * (rowAt rs place) .price
-    → turns m (take n rs) left ≡ turns k (take n after) rest
+pub turns-next : (n m k place left : ℕ) (a : Allowance) (rs : List Row) → m ≡ suc k → place < n → n ≤ length rs
+    → place ≡ cheapest (take n rs)
+    → let lump = allowed a (most (rowAt rs place) left) in
+    turns m (take n rs) left a ≡ turns k (take n (serve rs place lump)) (left - lump * (rowAt rs place) .price) (afterLump a lump)
 unfolding turns
-turns-next n m k place left rest rs after e h whole found stored spent =
-    rw (e, ← found, length-take-le n rs whole, lt-ltb place n h, getD-take n rs place noRow h, stored, spent)
-    (rw (take-set-lt n rs place (served (rowAt rs place) (most (rowAt rs place) left)) h))
+turns-next n m k place left a rs e h whole found =
+    rw (e, ← found, length-take-le n rs whole, lt-ltb place n h, getD-take n rs place noRow h)
+    (rw (take-set-lt n rs place (served (rowAt rs place) (allowed a (most (rowAt rs place) left))) h))
 
 -- and so of rows whose figures stand in arrays: what the turn gives is stored
-pub arrays-turn : (ps cs ls : List ℕ) (ws : List Bool) (n m k place left lump : ℕ) → Sized ps cs ls ws 4 → m ≡ suc k → place < n
-    → n ≤ 4 → place ≡ cheapest (take n (rowsIn ps cs ls ws)) → lump ≡ min (getD cs place 0) (left / getD ps place 0)
-    → turns m (take n (rowsIn ps cs ls ws)) left
+pub arrays-turn : (ps cs ls : List ℕ) (ws : List Bool) (n m k place left lump : ℕ) (a rest : Allowance) → Sized ps cs ls ws 4
+    → m ≡ suc k → place < n → n ≤ 4 → place ≡ cheapest (take n (rowsIn ps cs ls ws))
+    → lump ≡ allowed a (min (getD cs place 0) (left / getD ps place 0)) → rest ≡ afterLump a lump
+    → turns m (take n (rowsIn ps cs ls ws)) left a
     ≡ turns k
     (take n
     (rowsIn ps cs (set ls place ((served (rowAt (rowsIn ps cs ls ws) place) lump) .lump .0))
     (set ws place ((served (rowAt (rowsIn ps cs ls ws) place) lump) .waiting))))
-    (left - lump * getD ps place 0)
+    (left - lump * getD ps place 0) rest
 unfolding most
-arrays-turn ps cs ls ws n m k place left lump sized e h few found given =
+arrays-turn ps cs ls ws n m k place left lump a rest sized e h few found given drawing =
     let rs = rowsIn ps cs ls ws in
     let row = row-at ps cs ls ws 4 place sized (omega arith) in
-    let same : lump ≡ most (rowAt rs place) left = given ∙ sym (ap (λ (r : Row). most r left) row) in
-    turns-next n m k place left _ rs _ e h (rw (rows-counted ps cs ls ws 4 sized) few) found
-    (row-served ps cs ls ws place lump ∙ ap (λ (g : ℕ). serve rs place g) same)
-    (ap (λ (g : ℕ). left - g * getD ps place 0) same ∙ sym (ap (λ (r : Row). left - most (rowAt rs place) left * r .price) row))
+    let same : allowed a (most (rowAt rs place) left) ≡ lump = ap (λ (r : Row). allowed a (most r left)) row ∙ sym given in
+    let price : (rowAt rs place) .price ≡ getD ps place 0 = ap (λ (r : Row). r .price) row in
+    turns-next n m k place left a rs e h (rw (rows-counted ps cs ls ws 4 sized) few) found
+    ∙ (λ i. turns k (take n (serve rs place (same i))) (left - same i * price i) (afterLump a (same i)))
+    ∙ (λ i. turns k (take n (sym (row-served ps cs ls ws place lump) i)) (left - lump * getD ps place 0) (sym drawing i))
 
 -- what a turn gives costs at most what is left
-pub lump-affordable : (cap price left : ℕ) → min cap (left / price) * price ≤ left
+pub lump-affordable : (a : Allowance) (cap price left : ℕ) → allowed a (min cap (left / price)) * price ≤ left
 unfolding most
-lump-affordable cap price left =
-    most-affordable (record { price = price; cap = record { 0 = cap }; lump = record { 0 = 0 }; waiting = true }) left
+lump-affordable a cap price left =
+    le-trans (mul-le-mul-right price (allowed-at-most a (min cap (left / price))))
+    (most-affordable (record { price = price; cap = record { 0 = cap }; lump = record { 0 = 0 }; waiting = true }) left)
 
 -- where none of them waits, turns change nothing
-pub turns-idle : (n m left : ℕ) (rs : List Row) → n ≤ cheapest (take n rs) → turns m (take n rs) left ≡ take n rs
+pub turns-idle : (n m left : ℕ) (a : Allowance) (rs : List Row) → n ≤ cheapest (take n rs) → turns m (take n rs) left a ≡ take n rs
 unfolding turns
-turns-idle n zero left rs h = refl
-turns-idle n (suc m) left rs h =
+turns-idle n zero left a rs h = refl
+turns-idle n (suc m) left a rs h =
     rw (le-ltb (cheapest (take n rs)) (length (take n rs)) (rw length-take (omega arith)))
 
 -- as many turns of the rows of pensions as there are pensions are the grant
-pub grant-made : (bs : List Benefit) (n limit : ℕ) (rs : List Row) (lumps : List ℕ) → length bs ≡ n
-    → take n rs ≡ map rowOf bs → limit ≡ pricedLimit bs → lumps ≡ lumpsOf (turns n (take n rs) limit) → lumps ≡ grant bs
+pub grant-made : (a : Allowance) (bs : List Benefit) (n limit : ℕ) (rs : List Row) (lumps : List ℕ) → length bs ≡ n
+    → take n rs ≡ map rowOf bs → limit ≡ pricedLimit bs → lumps ≡ lumpsOf (turns n (take n rs) limit a) → lumps ≡ grant a bs
 unfolding grant
-grant-made bs n limit rs lumps counted made l e = rw (counted, e, made, l)
+grant-made a bs n limit rs lumps counted made l e = rw (counted, e, made, l)

@@ -2,12 +2,14 @@
 -- every other file is named for the argument it makes. The exception is HexLaws: of specs/Frame, numbers written and read
 -- back.
 pub mod Accepted
+pub mod AllowanceLaws
 pub mod ArraysLaws
 pub mod BenefitsLaws
 pub mod Best
 pub mod BytesLaws
 pub mod CaseLaws
 pub mod ConditionsLaws
+pub mod Cut
 pub mod Figures
 pub mod FrameLaws
 pub mod GrantLoop

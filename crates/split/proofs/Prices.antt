@@ -6,6 +6,7 @@ use mathlib.Core.List.{List, [], _∷_}
 use native.Mathlib.Nat
 use native.Mathlib.Omega.{arith}
 use Rattle.factors.specs.declared.effective.Factor.{Factor}
+use Rattle.split.specs.declared.allowance.Allowance.{Allowance}
 use Rattle.split.specs.declared.limits.Benefit.{Benefit}
 use Rattle.split.specs.Limits.{roundedUp, total, priceOf, spend, pricedLimit, Kept, KeepsPriced, tops, exactCost, KeepsExact, PositiveTops}
 
@@ -67,20 +68,22 @@ spend-near (b ∷ bs) (x ∷ xs) =
     (price-near (b .factor)) (spend-near bs xs)
 
 -- a split that keeps the priced limit keeps the exact one
-pub priced-exact : (bs : List Benefit) (xs : List ℕ) → PositiveTops bs → KeepsPriced bs xs → KeepsExact bs xs
+pub priced-exact : {a : Allowance} (bs : List Benefit) (xs : List ℕ) → PositiveTops bs → KeepsPriced a bs xs → KeepsExact a bs xs
 priced-exact bs xs h k = record {
   caps = k .caps;
-  cost =
-      simp ring (omega (arith, simp ring at (spend-covers bs xs h), simp ring at (Nat.mul-le-mul-left (tops bs) (k .spent))));
+  allowance = k .allowance;
+  within =
+      simp ring (omega (arith, simp ring at (spend-covers bs xs h), simp ring at (Nat.mul-le-mul-left (tops bs) (k .within))));
 }
 
 -- a split that keeps the exact limit is over the priced one by at most its total
-pub exact-priced : (bs : List Benefit) (xs : List ℕ) → PositiveTops bs → KeepsExact bs xs
-    → Kept (pricedLimit bs + total xs) bs xs
+pub exact-priced : {a : Allowance} (bs : List Benefit) (xs : List ℕ) → PositiveTops bs → KeepsExact a bs xs
+    → Kept a (spend bs) (pricedLimit bs + total xs) bs xs
 exact-priced bs xs h k = record {
   caps = k .caps;
-  spent =
+  allowance = k .allowance;
+  within =
       Nat.le-of-mul-le-mul-right {k = tops bs}
-      (simp ring (omega (arith, simp ring at (spend-near bs xs), simp ring at (k .cost))))
+      (simp ring (omega (arith, simp ring at (spend-near bs xs), simp ring at (k .within))))
       (tops-positive bs h);
 }

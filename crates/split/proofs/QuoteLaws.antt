@@ -15,19 +15,21 @@ use Rattle.split.specs.declared.case.Head.{Head}
 use Rattle.split.specs.declared.case.Pension.{Pension}
 use Rattle.split.specs.declared.answers.Share.{Share}
 use Rattle.split.specs.declared.answers.Quote.{Quote}
-use Rattle.split.specs.Case.{headAt, headOf, pensionsAt, pensionsOf}
+use Rattle.split.specs.Case.{headAt, headOf, pensionsAt, pensionsOf, allowanceUsedAt, allowanceUsedOf, caseLength}
 use Rattle.split.specs.Frame.{badCharacter}
 use Rattle.split.specs.Refusal.{badLength, conditions, refusalOf}
 use Rattle.calendar.specs.Tests.{lowest}
 use Rattle.split.specs.Benefits.{workedTerms, benefitOf, benefitsOf}
+use Rattle.split.specs.Allowance.{noAllowance, allowed}
 use Rattle.split.specs.Limits.{total, WithinCaps, Best}
+use Rattle.split.specs.Grant.{grant}
 use Rattle.split.specs.Working.{caseQuote}
-use Rattle.split.specs.Quote.{remainingOf, secondOf, shareOf, noShare, sharesOf, lumpsGranted, grantedQuote, refusedQuote, quoteOf, lumpsIn, BestLumps, SharesFit, QuoteFits}
+use Rattle.split.specs.Quote.{remainingOf, secondOf, shareOf, noShare, sharesOf, lumpsGranted, grantedQuote, refusedQuote, quoteOf, lumpsIn, allowanceIn, BestLumps, SharesFit, QuoteFits}
 use Rattle.calendar.proofs.TestsLaws.{lowest-none, by-zero}
 use Rattle.split.proofs.FrameLaws.{number-below}
 use Rattle.split.proofs.CaseLaws.{pensions-counted}
-use Rattle.split.proofs.ReadingLaws.{count-listed}
-use Rattle.split.proofs.Best.{grant-best}
+use Rattle.split.proofs.ReadingLaws.{length-listed}
+use Rattle.split.proofs.Best.{grant-best, grant-total}
 use Rattle.split.proofs.LimitsLaws.{total-capped}
 use Rattle.split.proofs.Accepted.{AcceptedPension, Accepted, case-accepted, deferred-terms, accepted-rest, accepted-tops, accepted-caps, accepted-pensions}
 
@@ -102,12 +104,17 @@ none-lumps : (n : ℕ) → lumpsIn (replicate n noShare) ≡ replicate n 0
 none-lumps zero = refl
 none-lumps (suc n) = ap (λ (l : List ℕ). 0 ∷ l) (none-lumps n)
 
+-- as much as the allowance of a line allows of the total without one
+abbrev pub allowedTotal : List ℕ → ℕ
+allowedTotal s = allowed (allowanceIn s) (total (grant noAllowance (benefitsOf (headOf s) (pensionsOf s))))
+
 -- what a line has that is not refused
 record GrantedCase (s : List ℕ) : Type 0 where
   few : headOf s .count ≤ 4
-  best : Best (benefitsOf (headOf s) (pensionsOf s)) (lumpsGranted (headOf s) (pensionsOf s))
-  small : total (lumpsGranted (headOf s) (pensionsOf s)) ≤ 1000000000
-  each : Shared (headOf s) (pensionsOf s) (lumpsGranted (headOf s) (pensionsOf s))
+  capped : total (lumpsGranted (headOf s) (pensionsOf s) (allowanceUsedOf s)) ≡ allowedTotal s
+  best : Best (allowanceIn s) (benefitsOf (headOf s) (pensionsOf s)) (lumpsGranted (headOf s) (pensionsOf s) (allowanceUsedOf s))
+  small : total (lumpsGranted (headOf s) (pensionsOf s) (allowanceUsedOf s)) ≤ 1000000000
+  each : Shared (headOf s) (pensionsOf s) (lumpsGranted (headOf s) (pensionsOf s) (allowanceUsedOf s))
 
 case-granted : (s : List ℕ) → refusalOf s ≡ 0 → GrantedCase s
 unfolding refusalOf lumpsGranted
@@ -118,19 +125,20 @@ case-granted s e =
     let last = lowest-none 1 (badLength (length s) (h .count)) (conditions h ps) later in
     let a = case-accepted h ps (last .1) in
     let caps = accepted-caps h ps a in
-    let best = grant-best (benefitsOf h ps) (accepted-tops h ps a) (omega arith) in
+    let best = grant-best (allowanceIn s) (benefitsOf h ps) (accepted-tops h ps a) (omega arith) in
     record {
-      few = count-listed (length s) (h .count) (last .0);
+      few = length-listed (length s) (h .count) (last .0) .counted .1;
+      capped = grant-total (allowanceIn s) (benefitsOf h ps) (accepted-tops h ps a) (omega arith);
       best = best;
-      small = omega (arith, total-capped (benefitsOf h ps) (lumpsGranted (headOf s) (pensionsOf s)) (best .priced .caps));
-      each = shared h ps (lumpsGranted (headOf s) (pensionsOf s)) a (best .priced .caps);
+      small = omega (arith, total-capped (benefitsOf h ps) (lumpsGranted (headOf s) (pensionsOf s) (allowanceUsedOf s)) (best .priced .caps));
+      each = shared h ps (lumpsGranted (headOf s) (pensionsOf s) (allowanceUsedOf s)) a (best .priced .caps);
     }
 
 -- it has as many shares as pensions are counted
 places-counted : (s : List ℕ) → GrantedCase s
-    → length (sharesOf (headOf s) (pensionsOf s) (lumpsGranted (headOf s) (pensionsOf s))) ≡ headOf s .count
+    → length (sharesOf (headOf s) (pensionsOf s) (lumpsGranted (headOf s) (pensionsOf s) (allowanceUsedOf s))) ≡ headOf s .count
 places-counted s g =
-    shares-counted (headOf s) (pensionsOf s) (lumpsGranted (headOf s) (pensionsOf s)) (shared-counted (g .each))
+    shares-counted (headOf s) (pensionsOf s) (lumpsGranted (headOf s) (pensionsOf s) (allowanceUsedOf s)) (shared-counted (g .each))
     ∙ pensions-counted s (headOf s .count)
 
 -- every figure of a grant fits
@@ -138,10 +146,10 @@ member-fits : (s : List ℕ) → headOf s .member < 4294967296
 unfolding headOf headAt
 member-fits s = number-below s 0 8
 
-granted-fits : (s : List ℕ) → GrantedCase s → QuoteFits (grantedQuote (headOf s) (pensionsOf s))
+granted-fits : (s : List ℕ) → GrantedCase s → QuoteFits (grantedQuote (headOf s) (pensionsOf s) (allowanceUsedOf s))
 unfolding grantedQuote
 granted-fits s g =
-    let shares = sharesOf (headOf s) (pensionsOf s) (lumpsGranted (headOf s) (pensionsOf s)) in
+    let shares = sharesOf (headOf s) (pensionsOf s) (lumpsGranted (headOf s) (pensionsOf s) (allowanceUsedOf s)) in
     record {
       member = member-fits s;
       total = omega arith;
@@ -156,7 +164,7 @@ refused-fits r = record { member = omega arith; total = omega arith; four = refl
 
 -- the best lumps of a case, with zeros for the other places, are the best in four places
 best-lumps : (s xs four : List ℕ) → four ≡ xs ++ replicate (4 - headOf s .count) 0 → length xs ≡ headOf s .count
-    → Best (benefitsOf (headOf s) (pensionsOf s)) xs → BestLumps s four (total xs)
+    → Best (allowanceIn s) (benefitsOf (headOf s) (pensionsOf s)) xs → BestLumps s four (total xs)
 best-lumps s xs four e counted best =
     let n = headOf s .count in
     let first : take n four ≡ xs = rw (e, take-at xs (replicate (4 - n) 0) n counted) in
@@ -167,20 +175,20 @@ best-lumps s xs four e counted best =
     }
 
 -- so are those of a grant
-granted-best : (s : List ℕ) → GrantedCase s → BestLumps s (lumpsIn (grantedQuote (headOf s) (pensionsOf s) .shares)) (grantedQuote (headOf s) (pensionsOf s) .total .0)
+granted-best : (s : List ℕ) → GrantedCase s → BestLumps s (lumpsIn (grantedQuote (headOf s) (pensionsOf s) (allowanceUsedOf s) .shares)) (grantedQuote (headOf s) (pensionsOf s) (allowanceUsedOf s) .total .0)
 unfolding grantedQuote
 granted-best s g =
-    best-lumps s (lumpsGranted (headOf s) (pensionsOf s)) _
+    best-lumps s (lumpsGranted (headOf s) (pensionsOf s) (allowanceUsedOf s)) _
     (shares-lumps _ (g .each) ∙ rw (none-lumps, places-counted s g))
     (shared-counted (g .each) ∙ pensions-counted s (headOf s .count))
     (g .best)
 
 -- the quote of a line is the grant's or the refusal's
-by-refusal : (P : Quote → Type 0) (s : List ℕ) → (refusalOf s ≡ 0 → P (grantedQuote (headOf s) (pensionsOf s)))
+by-refusal : (P : Quote → Type 0) (s : List ℕ) → (refusalOf s ≡ 0 → P (grantedQuote (headOf s) (pensionsOf s) (allowanceUsedOf s)))
     → ((refusalOf s ≡ 0 → ⊥) → P (refusedQuote (refusalOf s))) → P (quoteOf s)
 unfolding quoteOf
 by-refusal P s granting refusing =
-    by-zero P (refusalOf s) (grantedQuote (headOf s) (pensionsOf s)) (refusedQuote (refusalOf s)) granting refusing
+    by-zero P (refusalOf s) (grantedQuote (headOf s) (pensionsOf s) (allowanceUsedOf s)) (refusedQuote (refusalOf s)) granting refusing
 
 refused-as : (s : List ℕ) (r : ℕ) → (r ≡ 0 → ⊥) → refusalOf s ≡ r → refusedQuote r ≡ quoteOf s
 refused-as s r some e =
@@ -201,12 +209,18 @@ quote-best s e =
     by-refusal (λ q. BestLumps s (lumpsIn (q .shares)) (q .total .0)) s (λ z. granted-best s (case-granted s z))
     (λ ne. absurd (ne e))
 
+-- and their total is the lower of what is left of the allowance, where it applies, and the total without one
+pub quote-total : (s : List ℕ) → refusalOf s ≡ 0 → quoteOf s .total .0 ≡ allowedTotal s
+unfolding grantedQuote
+quote-total s e =
+    by-refusal (λ q. q .total .0 ≡ allowedTotal s) s (λ z. case-granted s z .capped) (λ ne. absurd (ne e))
+
 -- a line that is refused
 pub quote-refused : (s : List ℕ) (r : ℕ) (q : Quote) → (r ≡ 0 → ⊥) → refusalOf s ≡ r → q ≡ refusedQuote r → q ≡ quoteOf s
 quote-refused s r q some e made = made ∙ refused-as s r some e
 
 -- and one whose refusal is that of the case that was read: the quote is the case's too
 pub quote-read : (s : List ℕ) (h : Head) (q : Quote) → h ≡ headOf s → refusalOf s ≡ lowest 3 (conditions (headOf s) (pensionsOf s))
-    → q ≡ caseQuote h (pensionsAt s (h .count)) → q ≡ quoteOf s
+    → q ≡ caseQuote h (pensionsAt s (h .count)) (allowanceUsedAt s (caseLength (h .count)) (length s)) → q ≡ quoteOf s
 unfolding caseQuote quoteOf
 quote-read s h q read e made = made ∙ rw (read, e)

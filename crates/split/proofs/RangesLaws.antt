@@ -10,6 +10,7 @@ use lib.Dec.{eqb}
 use lib.ListN.{length, getD, take, length-map}
 use lib.Seq.{getD-take}
 use Rattle.calendar.proofs.SumsLaws.{sum-at}
+use Rattle.split.specs.declared.allowance.Allowance.{Allowance}
 use Rattle.split.specs.declared.case.Head.{Head}
 use Rattle.split.specs.declared.case.Pension.{Pension}
 use Rattle.split.specs.declared.limits.Benefit.{Benefit}
@@ -21,10 +22,10 @@ use Rattle.split.specs.Grant.{grant}
 use Rattle.split.specs.Ranges.{ShareRange, SharesRange}
 use Rattle.split.specs.Working.{multipleFactor, increaseOf, Columns, FourPlaces, Holds}
 use Rattle.split.proofs.Prices.{ring}
-use Rattle.split.proofs.Best.{grant-best}
+use Rattle.split.proofs.Turns.{grant-capped}
 use Rattle.split.proofs.LimitsLaws.{total-capped, caps-at}
 use Rattle.split.proofs.ListLoop.{map-at}
-use Rattle.split.proofs.Accepted.{AcceptedPension, Accepted, factor-range, increase-small, accepted-tops, accepted-caps}
+use Rattle.split.proofs.Accepted.{AcceptedPension, Accepted, factor-range, increase-small, accepted-caps}
 use Rattle.split.proofs.BenefitsLaws.{cap-quarter}
 use Rattle.split.proofs.WorkingLaws.{worked-range, given-up-worked, pension-held, factor-held, increase-held}
 
@@ -64,11 +65,10 @@ second-small p listed = go (eqb (p .kind) 2)
     go false = omega arith
 
 -- an accepted case, and the lumps granted
-module _ (h : Head) (ps : List Pension) (a : Accepted h ps) (xs : List ℕ) (granted : xs ≡ grant (benefitsOf h ps)) where
+module _ (allowance : Allowance) (h : Head) (ps : List Pension) (a : Accepted h ps) (xs : List ℕ)
+    (granted : xs ≡ grant allowance (benefitsOf h ps)) where
   within-caps : WithinCaps (benefitsOf h ps) xs
-  within-caps =
-      rw granted
-      (grant-best (benefitsOf h ps) (accepted-tops h ps a) (omega (arith, accepted-caps h ps a)) .priced .caps)
+  within-caps = rw granted (grant-capped allowance (benefitsOf h ps))
 
   pub lumps-small : total xs ≤ 1000000000
   lumps-small = omega (arith, total-capped (benefitsOf h ps) xs within-caps, accepted-caps h ps a)
@@ -90,11 +90,11 @@ module _ (h : Head) (ps : List Pension) (a : Accepted h ps) (xs : List ℕ) (gra
       (capped-at j place)
 
 -- whose figures columns hold, and whose lumps are the first of four
-pub shares-range : (h : Head) (ps : List Pension) (c : Columns) (lumps : List ℕ) (n : ℕ) → Accepted h ps → Holds h ps c → FourPlaces c
-    → length ps ≡ n → n ≤ 4 → length lumps ≡ 4 → take n lumps ≡ grant (benefitsOf h ps)
+pub shares-range : (allowance : Allowance) (h : Head) (ps : List Pension) (c : Columns) (lumps : List ℕ) (n : ℕ) → Accepted h ps
+    → Holds h ps c → FourPlaces c → length ps ≡ n → n ≤ 4 → length lumps ≡ 4 → take n lumps ≡ grant allowance (benefitsOf h ps)
     → ((j : ℕ) → n ≤ j → j < 4 → getD lumps j 0 ≡ 0)
     → SharesRange (c .pensions) (c .tops) (c .bottoms) (c .increases) lumps n
-shares-range h ps c lumps n a held four counted few places granted none =
+shares-range allowance h ps c lumps n a held four counted few places granted none =
     record {
       places = few;
       pensions = four .pensions;
@@ -105,7 +105,7 @@ shares-range h ps c lumps n a held four counted few places granted none =
       ranges = λ j place.
           let inside : j < length ps = rw counted place in
           rw (pension-held h ps c held j inside, factor-held h ps c held j inside, ← getD-take n lumps j 0 place)
-          (range-at h ps a (take n lumps) granted j inside);
+          (range-at allowance h ps a (take n lumps) granted j inside);
       small = λ j place.
           let inside : j < length ps = rw counted place in
           rw (increase-held h ps c held j inside) (second-small (getD ps j noPension) (a .each j inside .listed));

@@ -1,6 +1,6 @@
--- Laws of reading a case line: only lengths of one to four pensions are right, and the refusal of any line is that of its
--- characters, of its length, or of its case. Assumes nothing.
-use Prim.Native.Nat.{ℕ, _≤_, _<_}
+-- Laws of reading a case line: only lengths of one to four pensions are right, with or without the amount used, and the refusal
+-- of any line is that of its characters, of its length, or of its case. Assumes nothing.
+use Prim.Native.Nat.{ℕ, _+_, _≤_, _<_}
 use mathlib.Core.Bool.{Bool, true, false, cond, not, _&&_, _||_, false≢true}
 use mathlib.Core.List.{List, [], _∷_}
 use mathlib.Core.Path.{_≡_, refl, _∙_, ap}
@@ -12,25 +12,36 @@ use Rattle.calendar.specs.Tests.{within, lowest}
 use Rattle.calendar.proofs.TestsLaws.{and-left, and-right, or-left, or-right, not-true-false, within-bounds}
 use Rattle.split.specs.declared.case.Head.{Head}
 use Rattle.split.specs.Frame.{badCharacter}
-use Rattle.split.specs.Case.{headOf, pensionsOf, caseLength, longestLine}
+use Rattle.split.specs.Case.{headOf, pensionsOf, caseLength, allowanceUsedLength, longestLine}
 use Rattle.split.specs.Bytes.{blockLength}
 use Rattle.split.specs.Refusal.{badLength, lineRefusal, conditions, refusalOf}
 
--- a right length is that of one to four pensions
-listed : (characters n : ℕ) → (within 1 4 n && eqb characters (caseLength n)) ≡ true
-    → (1 ≤ n) × (n ≤ 4) × (characters ≡ caseLength n)
-listed characters n t =
-    let count = within-bounds 1 4 n (and-left (within 1 4 n) _ t) in
-    (count .0, count .1, eqb-true characters _ (and-right (within 1 4 n) _ t))
+-- what a right length has: one to four pensions, and behind them nothing or the whole field
+pub record RightLength (characters n : ℕ) : Type 0 where
+  pub counted : (1 ≤ n) × (n ≤ 4)
+  pub long : caseLength n ≤ characters
+  pub short : characters ≤ caseLength n + allowanceUsedLength
+  pub field : caseLength n < characters → caseLength n + allowanceUsedLength ≤ characters
 
-module _ (characters n : ℕ) (e : badLength characters n ≡ false) where
-  pub count-listed : n ≤ 4
-  unfolding badLength
-  count-listed = listed characters n (not-false _ e) .1
+listed : (characters n : ℕ)
+    → (within 1 4 n && (eqb characters (caseLength n) || eqb characters (caseLength n + allowanceUsedLength))) ≡ true → RightLength characters n
+listed characters n t = go (eqb characters (caseLength n)) refl (and-right (within 1 4 n) _ t)
+  where
+    count : (1 ≤ n) × (n ≤ 4)
+    count = within-bounds 1 4 n (and-left (within 1 4 n) _ t)
 
-  pub length-listed : characters ≡ caseLength n
-  unfolding badLength
-  length-listed = listed characters n (not-false _ e) .2
+    go : (ends : Bool) → eqb characters (caseLength n) ≡ ends → (ends || eqb characters (caseLength n + allowanceUsedLength)) ≡ true
+        → RightLength characters n
+    go true e right =
+        let same : characters ≡ caseLength n = eqb-true characters (caseLength n) e in
+        record { counted = count; long = omega arith; short = omega arith; field = λ h. absurd (omega arith) }
+    go false e right =
+        let same : characters ≡ caseLength n + allowanceUsedLength = eqb-true characters (caseLength n + allowanceUsedLength) right in
+        record { counted = count; long = omega arith; short = omega arith; field = λ h. omega arith }
+
+pub length-listed : (characters n : ℕ) → badLength characters n ≡ false → RightLength characters n
+unfolding badLength
+length-listed characters n e = listed characters n (not-false _ e)
 
 -- so none is as short as a block, or longer than the longest
 module _ (characters : ℕ) where

@@ -10,8 +10,8 @@ use native.Mathlib.Omega.{arith}
 use lib.ListN.{length}
 use Rattle.calendar.specs.Sums.{sumOf}
 use Rattle.split.specs.declared.limits.Benefit.{Benefit}
-use Rattle.split.specs.Limits.{priceOf, pricedLimit}
-use Rattle.split.specs.Grant.{Row, rowOf, served, rowAt, serve}
+use Rattle.split.specs.Limits.{total, priceOf, WithinCaps, pricedLimit}
+use Rattle.split.specs.Grant.{Row, rowOf, served, rowAt, serve, lumpsOf}
 use Rattle.split.proofs.Rows.{sum-set, every-set, every-start}
 
 -- rows with the prices and caps of pensions
@@ -29,13 +29,31 @@ matches-serve i g none = none
 matches-serve zero g (more price cap rest) = more price cap rest
 matches-serve (suc i) g (more price cap rest) = more price cap (matches-serve i g rest)
 
--- what a row's lump costs
+-- the lump of a row, and what it costs
+abbrev pub lumpOf : Row → ℕ
+lumpOf r = r .lump .0
+
 abbrev pub paid : Row → ℕ
-paid r = r .lump .0 * r .price
+paid r = lumpOf r * r .price
+
+-- the lumps together
+pub lumps-total : (rs : List Row) → total (lumpsOf rs) ≡ sumOf lumpOf rs
+lumps-total [] = refl
+lumps-total (r ∷ rs) = omega (arith, lumps-total rs)
+
+pub nothing-granted : (bs : List Benefit) → sumOf lumpOf (map rowOf bs) ≡ 0
+nothing-granted [] = refl
+nothing-granted (b ∷ bs) = omega (arith, nothing-granted bs)
 
 nothing-paid : (bs : List Benefit) → sumOf paid (map rowOf bs) ≡ 0
 nothing-paid [] = refl
 nothing-paid (b ∷ bs) = omega (arith, nothing-paid bs, Nat.zero-mul (priceOf (b .factor)))
+
+-- lumps within the rows' caps are a split within the pensions' caps
+pub lumps-capped : {bs : List Benefit} {rs : List Row} → Matches bs rs → ((j : ℕ) → (rowAt rs j) .lump .0 ≤ (rowAt rs j) .cap .0)
+    → WithinCaps bs (lumpsOf rs)
+lumps-capped none capped = tt
+lumps-capped (more price cap rest) capped = (omega (arith, capped 0), lumps-capped rest (λ j. capped (suc j)))
 
 -- what holds between turns, with what is left of the priced limit
 pub record Run (bs : List Benefit) (rs : List Row) (left : ℕ) : Type 0 where

@@ -1,6 +1,10 @@
--- A case line's head and pensions ("Case line" of document 01), over any bytes. Assumes nothing.
+-- A case line's head and pensions ("Case line" of document 01), and the field that may follow them (request [2] of document
+-- 02), over any bytes. Assumes nothing.
 use Prim.Native.Nat.{ℕ, zero, suc, _+_, _*_}
+use mathlib.Core.Bool.{cond}
 use mathlib.Core.List.{List, [], _∷_, _++_}
+use lib.Dec.{ltb}
+use lib.ListN.{length}
 use Rattle.calendar.specs.Calendar.{date}
 use Rattle.factors.specs.declared.effective.FactorTerms.{FactorTerms}
 use Rattle.split.specs.declared.case.Head.{Head}
@@ -69,9 +73,13 @@ pensionLength = 44
 abbrev pub caseLength : ℕ → ℕ
 caseLength n = headLength + pensionLength * n
 
--- that of four pensions
+-- "A case line may end with 4 further bytes"
+abbrev pub allowanceUsedLength : ℕ
+allowanceUsedLength = 8
+
+-- the longest has four pensions and that field
 abbrev pub longestLine : ℕ
-longestLine = caseLength 4
+longestLine = caseLength 4 + allowanceUsedLength
 
 -- the first k pensions: each stands where a line of those before it ends
 unfoldable pub pensionsAt : List ℕ → ℕ → List Pension
@@ -81,3 +89,12 @@ pensionsAt s (suc k) = pensionsAt s k ++ (pensionAt s (caseLength k) ∷ [])
 -- the pensions of the line: as many as its head says
 abbrev pub pensionsOf : List ℕ → List Pension
 pensionsOf s = pensionsAt s (headOf s .count)
+
+-- "pence of allowance already used", at a place where a line of so many characters goes on; "the old lengths mean nothing
+-- used", where it ends there
+unfoldable pub allowanceUsedAt : List ℕ → ℕ → ℕ → ℕ
+allowanceUsedAt s at characters = cond (ltb at characters) (numberAt s at allowanceUsedLength) 0
+
+-- the amount used of the line: behind its pensions
+abbrev pub allowanceUsedOf : List ℕ → ℕ
+allowanceUsedOf s = allowanceUsedAt s (caseLength (headOf s .count)) (length s)

@@ -1,10 +1,13 @@
--- The limits of a split ("Split" of document 01): caps, the exact limit, the price and the priced limit,
--- over the pensions of a case, as many as there are. A split is a list of natural numbers. Assumes nothing.
+-- The limits of a split ("Split" of document 01): caps, the exact limit, the price and the priced limit, over the pensions of
+-- a case, as many as there are; and the allowance (request [2] of document 02). A split is a list of natural numbers. Assumes
+-- nothing.
 use Prim.Native.Nat.{ℕ, _+_, _-_, _*_, _/_, _≤_}
 use mathlib.Core.List.{List, [], _∷_}
 use Rattle.calendar.specs.Sums.{sumOf}
 use Rattle.factors.specs.declared.effective.Factor.{Factor}
+use Rattle.split.specs.declared.allowance.Allowance.{Allowance}
 use Rattle.split.specs.declared.limits.Benefit.{Benefit}
+use Rattle.split.specs.Allowance.{KeepsAllowance}
 
 -- the pension that stands for none
 abbrev pub noBenefit : Benefit
@@ -48,14 +51,15 @@ spend (b ∷ bs) (x ∷ xs) = x * priceOf (b .factor) + spend bs xs
 abbrev pub pricedLimit : List Benefit → ℕ
 pricedLimit bs = 20000000000 * totalPension bs
 
--- a split within the caps that spends at most a limit
-pub record Kept (limit : ℕ) (bs : List Benefit) (xs : List ℕ) : Type 0 where
+-- What a split keeps, a grant's or a rival's: the caps, the allowance of its case, and a limit of what it costs.
+pub record Kept (a : Allowance) (cost : List ℕ → ℕ) (limit : ℕ) (bs : List Benefit) (xs : List ℕ) : Type 0 where
   pub caps : WithinCaps bs xs
-  pub spent : spend bs xs ≤ limit
+  pub allowance : KeepsAllowance a (total xs)
+  pub within : cost xs ≤ limit
 
--- it keeps the caps and the priced limit
-abbrev pub KeepsPriced : List Benefit → List ℕ → Type 0
-KeepsPriced bs xs = Kept (pricedLimit bs) bs xs
+-- it keeps caps, allowance and the priced limit
+abbrev pub KeepsPriced : Allowance → List Benefit → List ℕ → Type 0
+KeepsPriced a bs xs = Kept a (spend bs) (pricedLimit bs) bs xs
 
 -- the product of every top of the case
 abbrev pub tops : List Benefit → ℕ
@@ -70,22 +74,22 @@ exactCost (b ∷ bs) [] = 0
 exactCost (b ∷ bs) (x ∷ xs) =
     x * (3 * b .factor .top + 20 * b .factor .bottom) * tops bs + b .factor .top * exactCost bs xs
 
--- it keeps the caps and the exact limit, "at most 20 times the sum of P", times every top of the case
-pub record KeepsExact (bs : List Benefit) (xs : List ℕ) : Type 0 where
-  pub caps : WithinCaps bs xs
-  pub cost : exactCost bs xs ≤ 20 * totalPension bs * tops bs
+-- it keeps caps, allowance and the exact limit, "at most 20 times the sum of P", times every top of the case
+abbrev pub KeepsExact : Allowance → List Benefit → List ℕ → Type 0
+KeepsExact a bs xs = Kept a (exactCost bs) (20 * totalPension bs * tops bs) bs xs
 
 -- every top is positive
 abbrev pub PositiveTops : List Benefit → Type 0
 PositiveTops [] = Unit
 PositiveTops (b ∷ bs) = (1 ≤ b .factor .top) × PositiveTops bs
 
--- What is claimed of a grant: it keeps the caps and both limits, and no split does better under the priced limit, nor
--- by more than a penny under the exact one. Rivals are all lists of natural numbers.
-pub record Best (bs : List Benefit) (xs : List ℕ) : Type 0 where
+-- What is claimed of a grant: it keeps the caps, the allowance and both limits, and no split that keeps the caps and the
+-- allowance does better under the priced limit, nor by more than a penny under the exact one. "The best split is now the best
+-- among splits that also keep the allowance, rivals included." Rivals are all lists of natural numbers.
+pub record Best (a : Allowance) (bs : List Benefit) (xs : List ℕ) : Type 0 where
   -- nothing is lost by multiplying with the tops
   pub tops : PositiveTops bs
-  pub priced : KeepsPriced bs xs
-  pub exact : KeepsExact bs xs
-  pub best : (ys : List ℕ) → KeepsPriced bs ys → total ys ≤ total xs
-  pub nearly : (ys : List ℕ) → KeepsExact bs ys → total ys ≤ total xs + 1
+  pub priced : KeepsPriced a bs xs
+  pub exact : KeepsExact a bs xs
+  pub best : (ys : List ℕ) → KeepsPriced a bs ys → total ys ≤ total xs
+  pub nearly : (ys : List ℕ) → KeepsExact a bs ys → total ys ≤ total xs + 1

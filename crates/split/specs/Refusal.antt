@@ -12,15 +12,17 @@ use Rattle.factors.specs.declared.effective.FactorTerms.{FactorTerms}
 use Rattle.split.specs.declared.case.Head.{Head}
 use Rattle.split.specs.declared.case.Pension.{Pension}
 use Rattle.split.specs.Frame.{badCharacter}
-use Rattle.split.specs.Case.{headOf, pensionsOf, caseLength}
+use Rattle.split.specs.Case.{headOf, pensionsOf, caseLength, allowanceUsedLength}
 
 -- "Age is months from birth to commencement"
 unfoldable pub ageOf : Head → ℕ
 ageOf h = months (h .birth) (h .commencement)
 
--- 2. "Length is not 70, 114, 158 or 202, or n disagrees with it": not that of the 1 to 4 pensions that n counts
+-- 2. "Length is not 70, 114, 158 or 202, or n disagrees with it": not that of the 1 to 4 pensions that n counts; "78, 122, 166
+-- and 210 join those" (request [2]), with the field behind as many pensions
 unfoldable pub badLength : ℕ → ℕ → Bool
-badLength characters n = not (within 1 4 n && eqb characters (caseLength n))
+badLength characters n =
+    not (within 1 4 n && (eqb characters (caseLength n) || eqb characters (caseLength n + allowanceUsedLength)))
 
 -- conditions 1 and 2 of a line, in their order
 abbrev pub lineConditions : List ℕ → List Bool

@@ -153,6 +153,6 @@ shareFrom xs rs ss j =
     }
 
 -- the quote of a case
-unfoldable pub caseQuote : Head → List Pension → Quote
-caseQuote h ps =
-    cond (eqb (lowest 3 (conditions h ps)) 0) (grantedQuote h ps) (refusedQuote (lowest 3 (conditions h ps)))
+unfoldable pub caseQuote : Head → List Pension → ℕ → Quote
+caseQuote h ps used =
+    cond (eqb (lowest 3 (conditions h ps)) 0) (grantedQuote h ps used) (refusedQuote (lowest 3 (conditions h ps)))

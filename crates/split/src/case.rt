@@ -1,12 +1,13 @@
-// A case as its line has it: the head and a pension, each read where a cursor stands.
+// A case as its line has it: the head, a pension and the amount used, each read where a cursor stands.
 use crate::frame::Cursor;
 use crate::frame::LONGEST;
 use calendar::Date;
 use factors::effective::FactorTerms;
+use factors::money::LumpPence;
 use factors::money::YearlyPence;
-ghost use Prim.Native.Nat.{_+_, _≤_};
-ghost use Rattle.split.specs.Case.{headAt, serviceAt, termsAt, pensionAt, headLength, pensionLength, longestLine};
-ghost use Rattle.split.specs.Bytes.{Taken};
+ghost use Prim.Native.Nat.{_+_, _≤_, _<_};
+ghost use Rattle.split.specs.Case.{headAt, serviceAt, termsAt, pensionAt, allowanceUsedAt, headLength, pensionLength, allowanceUsedLength, longestLine};
+ghost use Rattle.split.specs.Bytes.{FieldOf, Taken};
 
 pub struct Head {
     pub member: u32,
@@ -131,4 +132,16 @@ pub fn read_pension(bytes: &[u8; LONGEST], at: Cursor) -> PensionField
         },
         next,
     }
+}
+
+// The pence of allowance already used, where a line of so many characters goes on; nothing where it ends.
+pub fn read_allowance_used(bytes: &[u8; LONGEST], at: Cursor, characters: usize) -> LumpPence
+    requires { ⌜ (at .at < characters → at .at + allowanceUsedLength ≤ characters) × (characters ≤ longestLine) ⌝ }
+    ensures { λ r. ⌜ FieldOf (now (bytes .entry)) characters (r .0) (λ s. allowanceUsedAt s (at .at) characters) ⌝ }
+{
+    if at.at < characters {
+        let used = at.number(bytes);
+        return LumpPence(used.value);
+    }
+    LumpPence(0)
 }

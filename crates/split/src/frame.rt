@@ -9,12 +9,14 @@ ghost use Rattle.split.specs.Frame.{hexValue, noDigit, digitAt, numberAt
 ghost use Rattle.split.specs.Case.{longestLine};
 ghost use Rattle.split.specs.Bytes.{blockLength, Decoded, Bytes, Taken, numberOf};
 
-// The characters of a head, of a pension, and of the longest case line.
+// The characters of a head, of a pension, of the field that may follow the pensions, and of the longest case line.
 pub const HEAD_LENGTH: usize = 26;
 
 pub const PENSION_LENGTH: usize = 44;
 
-pub const LONGEST: usize = HEAD_LENGTH + 4 * PENSION_LENGTH;
+pub const ALLOWANCE_USED_LENGTH: usize = 8;
+
+pub const LONGEST: usize = HEAD_LENGTH + 4 * PENSION_LENGTH + ALLOWANCE_USED_LENGTH;
 
 // How many characters are decoded together.
 pub const BLOCK: usize = 32;

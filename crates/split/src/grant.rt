@@ -1,5 +1,7 @@
-// The grant: lowest price first, equal prices in line order, each pension the most its cap and what is left of the
-// priced limit allow. Figures of pensions stand in arrays of numbers, since no array of structs can be lent.
+// The grant: lowest price first, equal prices in line order, each pension the most its cap, what is left of the priced limit
+// and what is left of the allowance allow. Figures of pensions stand in arrays of numbers, since no array of structs can be lent.
+use crate::allowance;
+use crate::allowance::Allowance;
 use factors::money::LumpPence;
 ghost use mathlib.Core.Path.{_≡_};
 ghost use mathlib.Core.Bool.{true};
@@ -42,20 +44,28 @@ fn most_of(cap: LumpPence, price: u64, left: u64) -> LumpPence
     requires { ⌜ 0 < price ⌝ }
     ensures { λ r. ⌜ r .0 ≡ min (cap .0) (left / price) ⌝ }
 {
-    let allowed = left / price;
-    if cap.0 as u64 <= allowed {
+    let affordable = left / price;
+    if cap.0 as u64 <= affordable {
         return cap;
     }
-    LumpPence(allowed as u32)
+    LumpPence(affordable as u32)
 }
 
 // The first n pensions have their turns one after the other, and are given their lumps.
-fn take_turns(prices: &[u64; 4], caps: &[u32; 4], n: usize, limit: u64, lumps: &mut [u32; 4])
+fn take_turns(
+    prices: &[u64; 4],
+    caps: &[u32; 4],
+    n: usize,
+    limit: u64,
+    allowance: Allowance,
+    lumps: &mut [u32; 4],
+)
     requires { ⌜ (n ≤ 4) × (length (now prices) ≡ 4) × (length (now caps) ≡ 4) × ((j : ℕ) → j < n → 0 < getD (now prices) j 0) × (now lumps ≡ replicate 4 0) ⌝ }
-    ensures { λ _. ⌜ (take n (now (lumps .exit)) ≡ lumpsOf (turns n (take n (rowsIn (now (prices .entry)) (now (caps .entry)) (replicate 4 0) (replicate 4 true))) limit)) × (length (now (lumps .exit)) ≡ 4) × ((j : ℕ) → n ≤ j → j < 4 → getD (now (lumps .exit)) j 0 ≡ 0) ⌝ }
+    ensures { λ _. ⌜ (take n (now (lumps .exit)) ≡ lumpsOf (turns n (take n (rowsIn (now (prices .entry)) (now (caps .entry)) (replicate 4 0) (replicate 4 true))) limit allowance)) × (length (now (lumps .exit)) ≡ 4) × ((j : ℕ) → n ≤ j → j < 4 → getD (now (lumps .exit)) j 0 ≡ 0) ⌝ }
 {
     let mut waiting = [true; 4];
     let mut left = limit;
+    let mut allowance_left = allowance;
     let mut done = 0;
     while done < n {
         let place = cheapest_place(prices, &waiting, n);
@@ -63,25 +73,29 @@ fn take_turns(prices: &[u64; 4], caps: &[u32; 4], n: usize, limit: u64, lumps: &
             return;
         }
         let price = prices[place];
-        let lump = most_of(LumpPence(caps[place]), price, left);
+        let most = most_of(LumpPence(caps[place]), price, left);
+        let lump = allowance::allowed_lump(allowance_left, most);
         lumps[place] = lump.0;
         waiting[place] = false;
         let spent = lump.0 as u64 * price;
         left -= spent;
+        allowance_left = allowance::after_lump(allowance_left, lump);
         done += 1;
     }
 }
 
-// Grants the first n pensions their lumps, which are zero before: the priced limit is that of the pensions together.
+// Grants the first n pensions their lumps, which are zero before: the priced limit is that of the pensions together, and the
+// allowance that of their case.
 pub fn grant_of(
     pensions: &[u32; 4],
     prices: &[u64; 4],
     caps: &[u32; 4],
     n: usize,
+    allowance: Allowance,
     lumps: &mut [u32; 4],
 )
     requires { ⌜ (n ≤ 4) × (length (now pensions) ≡ 4) × (total (take n (now pensions)) ≤ 50000000) × (length (now prices) ≡ 4) × (length (now caps) ≡ 4) × ((j : ℕ) → j < n → 0 < getD (now prices) j 0) × (now lumps ≡ replicate 4 0) ⌝ }
-    ensures { λ _. ⌜ (take n (now (lumps .exit)) ≡ lumpsOf (turns n (take n (rowsIn (now (prices .entry)) (now (caps .entry)) (replicate 4 0) (replicate 4 true))) (20000000000 * total (take n (now (pensions .entry)))))) × (length (now (lumps .exit)) ≡ 4) × ((j : ℕ) → n ≤ j → j < 4 → getD (now (lumps .exit)) j 0 ≡ 0) ⌝ }
+    ensures { λ _. ⌜ (take n (now (lumps .exit)) ≡ lumpsOf (turns n (take n (rowsIn (now (prices .entry)) (now (caps .entry)) (replicate 4 0) (replicate 4 true))) (20000000000 * total (take n (now (pensions .entry)))) allowance)) × (length (now (lumps .exit)) ≡ 4) × ((j : ℕ) → n ≤ j → j < 4 → getD (now (lumps .exit)) j 0 ≡ 0) ⌝ }
 {
     let mut sum: u32 = 0;
     let mut i = 0;
@@ -89,5 +103,12 @@ pub fn grant_of(
         sum += pensions[i];
         i += 1;
     }
-    take_turns(prices, caps, n, 20000000000 * (sum as u64), lumps);
+    take_turns(
+        prices,
+        caps,
+        n,
+        20000000000 * (sum as u64),
+        allowance,
+        lumps,
+    );
 }

@@ -1,4 +1,5 @@
 // The split: from the bytes of a case line to its refusal or its quote.
+mod allowance;
 pub mod answers;
 mod case;
 mod frame;
@@ -49,5 +50,5 @@ pub fn quote(line: &[u8]) -> Quote
     if refusal::has_bad_length(line.len(), head.count) {
         return quoting::refused_quote(2);
     }
-    quoting::case_quote(&bytes, read.next, head, head.count as usize)
+    quoting::case_quote(&bytes, read.next, head, head.count as usize, line.len())
 }

@@ -7,8 +7,14 @@ use crate::limits;
 use crate::refusal;
 ghost use mathlib.Core.Path.{_≡_};
 ghost use Prim.Native.Nat.{_≤_};
-ghost use Rattle.split.specs.Case.{headLength};
+ghost use Rattle.split.specs.Case.{headLength, caseLength};
 ghost use Rattle.split.specs.Working.{FourPlaces, columns, WorkedOut};
+
+// The refusal of pensions that were worked out, and the cursor behind them.
+pub struct WorkedPensions {
+    pub refusal: u8,
+    pub next: Cursor,
+}
 
 // Refusals 3 to 10 of a case with n pensions, the first of which is where the cursor stands; and where there is none, the
 // figures of each pension at its place. One loop does it all, so that no pension is kept.
@@ -23,9 +29,9 @@ pub fn work_out(
     caps: &mut [u32; 4],
     prices: &mut [u64; 4],
     increases: &mut [u16; 4],
-) -> u8
+) -> WorkedPensions
     requires { ⌜ (at .at ≡ headLength) × (n ≤ 4) × FourPlaces (columns (now pensions) (now tops) (now bottoms) (now caps) (now prices) (now increases)) ⌝ }
-    ensures { λ r. ⌜ WorkedOut head (now (bytes .entry)) n r (columns (now (pensions .exit)) (now (tops .exit)) (now (bottoms .exit)) (now (caps .exit)) (now (prices .exit)) (now (increases .exit))) ⌝ }
+    ensures { λ r. ⌜ WorkedOut head (now (bytes .entry)) n (r .refusal) (columns (now (pensions .exit)) (now (tops .exit)) (now (bottoms .exit)) (now (caps .exit)) (now (prices .exit)) (now (increases .exit))) × (r .next .at ≡ caseLength n) ⌝ }
 {
     let basis = limits::basis_of(head);
     let mut refused = refusal::head_refusal(head, basis.age);
@@ -54,7 +60,10 @@ pub fn work_out(
         i += 1;
     }
     if 50000000 < stated {
-        return refusal::lower_of(refused, 10);
+        refused = refusal::lower_of(refused, 10);
     }
-    refused
+    WorkedPensions {
+        refusal: refused,
+        next,
+    }
 }

@@ -1,6 +1,8 @@
 // Making a quote: the lump sums granted, what remains of each pension, and the second instalments.
+use crate::allowance;
 use crate::answers::Quote;
 use crate::answers::Share;
+use crate::case;
 use crate::case::Head;
 use crate::frame::Cursor;
 use crate::frame::LONGEST;
@@ -10,10 +12,12 @@ use factors::effective::Factor;
 use factors::money::LumpPence;
 use factors::money::YearlyPence;
 ghost use mathlib.Core.Path.{_≡_};
+ghost use mathlib.Core.Bool.{false};
 ghost use Prim.Native.Nat.{_-_, _*_, _/_, _≤_};
 ghost use lib.ListN.{length, take, replicate};
-ghost use Rattle.split.specs.Case.{pensionsAt, headLength, caseLength};
+ghost use Rattle.split.specs.Case.{pensionsAt, allowanceUsedAt, headLength, caseLength};
 ghost use Rattle.split.specs.Bytes.{FieldOf};
+ghost use Rattle.split.specs.Refusal.{badLength};
 ghost use Rattle.split.specs.Limits.{total};
 ghost use Rattle.split.specs.Quote.{padded, noShare, refusedQuote};
 ghost use Rattle.split.specs.Working.{placed, sharesIn, remainingIn, secondIn, FilledBy, shareFrom, caseQuote};
@@ -136,10 +140,16 @@ fn total_of(lumps: &[u32; 4], n: usize) -> LumpPence
     LumpPence(sum)
 }
 
-// The quote of a case with n pensions, the first of which is where the cursor stands.
-pub fn case_quote(bytes: &[u8; LONGEST], at: Cursor, head: Head, n: usize) -> Quote
-    requires { ⌜ (at .at ≡ headLength) × (n ≤ 4) ⌝ }
-    ensures { λ r. ⌜ FieldOf (now (bytes .entry)) (caseLength n) r (λ s. caseQuote head (pensionsAt s n)) ⌝ }
+// The quote of a case with n pensions, the first of which is where the cursor stands, in a line of so many characters.
+pub fn case_quote(
+    bytes: &[u8; LONGEST],
+    at: Cursor,
+    head: Head,
+    n: usize,
+    characters: usize,
+) -> Quote
+    requires { ⌜ (at .at ≡ headLength) × (badLength characters n ≡ false) ⌝ }
+    ensures { λ r. ⌜ FieldOf (now (bytes .entry)) characters r (λ s. caseQuote head (pensionsAt s n) (allowanceUsedAt s (caseLength n) characters)) ⌝ }
 {
     let mut pensions = [0u32; 4];
     let mut tops = [0u64; 4];
@@ -147,7 +157,7 @@ pub fn case_quote(bytes: &[u8; LONGEST], at: Cursor, head: Head, n: usize) -> Qu
     let mut caps = [0u32; 4];
     let mut prices = [0u64; 4];
     let mut increases = [0u16; 4];
-    let refused = pensions::work_out(
+    let worked = pensions::work_out(
         bytes,
         at,
         head,
@@ -159,11 +169,13 @@ pub fn case_quote(bytes: &[u8; LONGEST], at: Cursor, head: Head, n: usize) -> Qu
         &mut prices,
         &mut increases,
     );
-    if refused != 0 {
-        return refused_quote(refused);
+    if worked.refusal != 0 {
+        return refused_quote(worked.refusal);
     }
+    let used = case::read_allowance_used(bytes, worked.next, characters);
+    let allowance = allowance::allowance_of(head.commencement, used);
     let mut lumps = [0u32; 4];
-    grant::grant_of(&pensions, &prices, &caps, n, &mut lumps);
+    grant::grant_of(&pensions, &prices, &caps, n, allowance, &mut lumps);
     let total = total_of(&lumps, n);
     let shares = shares_of(&pensions, &tops, &bottoms, &increases, &lumps, n);
     Quote {

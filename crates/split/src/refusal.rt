@@ -21,7 +21,7 @@ pub fn has_bad_length(characters: usize, n: u8) -> bool
 {
     let counted = is_within(1, 4, n as u32);
     let wanted = frame::HEAD_LENGTH + frame::PENSION_LENGTH * (n as usize);
-    !(counted & (characters == wanted))
+    !(counted & ((characters == wanted) | (characters == wanted + frame::ALLOWANCE_USED_LENGTH)))
 }
 
 fn is_undated_head(head: Head) -> bool

@@ -21,9 +21,10 @@ use std::path::{Path, PathBuf};
 use std::process::ExitCode;
 use std::time::Duration;
 
+use cases::allowances::{cut_line, uncut_line};
 use cases::generator::Generator;
-use cases::month_ends::month_end_text;
-use cases::random::mixed_text;
+use cases::month_ends::month_end_case;
+use cases::random::{mixed_line, mixed_text, text_of};
 use cases::registers::{set_own_members, sound_register, LINE};
 
 use archive::Archive;
@@ -36,6 +37,7 @@ const LINES: usize = 1_000_000;
 const REGISTER_BYTES: usize = 100_000_000;
 const MIXED: &str = "quote 1,000,000 mixed lines";
 const MONTH_ENDS: &str = "quote 1,000,000 lines of month ends and leap days";
+const CUT: &str = "quote 1,000,000 lines with a used amount, cut by the allowance";
 
 fn main() -> ExitCode {
     match compare() {
@@ -73,14 +75,21 @@ fn compare_with_reference() -> io::Result<()> {
         effort: Effort { runs: 7, time: Duration::ZERO },
         table: Table { left: "engine", right: "reference", quotient: Quotient::LeftByRight },
     };
-    let (text, register) = text_and_register();
+    let mut random = Generator::for_test("bench");
+    let text = mixed_text(&mut random, LINES);
+    let register = register(&mut random);
+    let mut random = Generator::for_test("bench of the allowance");
+    let cut = text_of(LINES, || cut_line(&mut random));
+    comparison.assert_same_quotes(&cut);
     comparison.table.print_heading();
     comparison.quote_lines(MIXED, &text);
+    comparison.quote_lines(CUT, &cut);
     comparison.file_and_find(&text, &register)
 }
 
 /// An archive against another. Every line is quoted by both before the first
-/// row is printed, and every figure of the quotes must agree.
+/// row is printed, and every figure of the quotes must agree. One of the two may
+/// know no lump sum allowance, so no line states a used amount or is cut by it.
 fn compare_archives(before: Side<Archive>, after: Side<Archive>) -> io::Result<()> {
     let comparison = Comparison {
         left: before,
@@ -88,8 +97,11 @@ fn compare_archives(before: Side<Archive>, after: Side<Archive>) -> io::Result<(
         effort: Effort { runs: 15, time: Duration::from_secs(2) },
         table: Table { left: "before", right: "after", quotient: Quotient::RightByLeft },
     };
-    let (text, register) = text_and_register();
-    let month_ends = month_end_text(&mut Generator::for_test("bench of month ends"), LINES);
+    let mut random = Generator::for_test("bench");
+    let text = text_of(LINES, || uncut_line(|| mixed_line(&mut random)));
+    let register = register(&mut random);
+    let mut random = Generator::for_test("bench of month ends");
+    let month_ends = text_of(LINES, || uncut_line(|| month_end_case(&mut random).line()));
     comparison.assert_same_quotes(&text);
     comparison.assert_same_quotes(&month_ends);
     comparison.table.print_heading();
@@ -104,11 +116,9 @@ fn loaded(object: &Path, program: &Path) -> io::Result<Side<Archive>> {
     Ok(Side { calls: Archive::load(object)?, program: program.to_path_buf() })
 }
 
-/// The mixed lines, and a register with a member of its own in every line.
-fn text_and_register() -> (Vec<u8>, Vec<u8>) {
-    let mut random = Generator::for_test("bench");
-    let text = mixed_text(&mut random, LINES);
-    let mut register = sound_register(&mut random, REGISTER_BYTES / LINE, 1);
+/// A register with a member of its own in every line.
+fn register(random: &mut Generator) -> Vec<u8> {
+    let mut register = sound_register(random, REGISTER_BYTES / LINE, 1);
     set_own_members(&mut register);
-    (text, register)
+    register
 }

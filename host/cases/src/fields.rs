@@ -24,6 +24,8 @@ pub struct CaseFields {
     pub commencement: Date,
     pub count: u8,
     pub pensions: Vec<PensionFields>,
+    /// Pence already used of the lump sum allowance, if the line states them.
+    pub used_allowance: Option<u32>,
     /// Puts a character that is no digit in the place of the first one.
     pub bad_character: bool,
 }
@@ -40,6 +42,9 @@ impl CaseFields {
         );
         for pension in &self.pensions {
             line.push_str(&pension.digits());
+        }
+        if let Some(used) = self.used_allowance {
+            line.push_str(&format!("{used:08X}"));
         }
         let mut line = line.into_bytes();
         if self.bad_character {
@@ -71,7 +76,8 @@ fn date_digits(date: Date) -> String {
 }
 
 /// A good pension of a kind with 30 years of service, for a member born in
-/// June 1970.
+/// June 1970. Four of them never reach the lump sum allowance, so that every
+/// figure shows whatever the commencement.
 pub fn plain_pension(kind: u8) -> PensionFields {
     let terms = match kind {
         1 => [2500, 0, 0, 0],
@@ -81,7 +87,7 @@ pub fn plain_pension(kind: u8) -> PensionFields {
     let [f1, f2, f3, increase] = terms;
     PensionFields {
         kind,
-        yearly: 2_000_000,
+        yearly: 1_000_000,
         start: Date::new(1988, 6, 15),
         end: Date::new(2018, 6, 15),
         lift: 0,
@@ -93,7 +99,8 @@ pub fn plain_pension(kind: u8) -> PensionFields {
 }
 
 /// A good case of the given kinds: at age 54 with kind 2 (which then allows no
-/// kind 3), else at 57. Both ages are in Table 1.
+/// kind 3), else at 57. Both ages are in Table 1. The line states no used
+/// allowance.
 pub fn plain_case(kinds: &[u8]) -> CaseFields {
     let year = if kinds.contains(&2) { 2024 } else { 2027 };
     CaseFields {
@@ -102,6 +109,7 @@ pub fn plain_case(kinds: &[u8]) -> CaseFields {
         commencement: Date::new(year, 6, 15),
         count: kinds.len() as u8,
         pensions: kinds.iter().map(|&kind| plain_pension(kind)).collect(),
+        used_allowance: None,
         bad_character: false,
     }
 }
@@ -168,9 +176,32 @@ pub fn dates_after(date: Date, months: u32) -> Vec<Date> {
     in_month.chain(in_next_month).collect()
 }
 
+/// All dates that a date is a count of complete months after, in order.
+pub fn dates_before(date: Date, months: u32) -> Vec<Date> {
+    let (year, month) = month_before(date, months + 1);
+    let in_month_before =
+        (date.day + 1..=days_in_month(year, month)).map(|day| Date::new(year, month, day));
+    let (year, month) = month_before(date, months);
+    let last = days_in_month(year, month).min(date.day);
+    let in_month = (1..=last).map(|day| Date::new(year, month, day));
+    in_month_before.chain(in_month).collect()
+}
+
 fn month_after(date: Date, months: u32) -> (u16, u8) {
-    let month = u32::from(date.month) - 1 + months;
-    (date.year + (month / 12) as u16, (month % 12) as u8 + 1)
+    year_and_month(months_to(date) + months)
+}
+
+fn month_before(date: Date, months: u32) -> (u16, u8) {
+    year_and_month(months_to(date) - months)
+}
+
+/// The month of a date, counted from January of the year 0.
+fn months_to(date: Date) -> u32 {
+    12 * u32::from(date.year) + u32::from(date.month) - 1
+}
+
+fn year_and_month(months: u32) -> (u16, u8) {
+    ((months / 12) as u16, (months % 12) as u8 + 1)
 }
 
 pub fn day_after(date: Date) -> Date {
@@ -181,5 +212,28 @@ pub fn day_after(date: Date) -> Date {
         Date::new(year, month + 1, 1)
     } else {
         Date::new(year + 1, 1, 1)
+    }
+}
+
+#[cfg(test)]
+mod tests {
+    use super::*;
+
+    #[test]
+    fn dates_before_and_after() {
+        let days = [
+            Date::new(2024, 4, 5),
+            Date::new(2024, 2, 29),
+            Date::new(2023, 12, 31),
+            Date::new(2025, 1, 1),
+        ];
+        for day in days {
+            for months in 0..=1199 {
+                let before = dates_before(day, months);
+                assert!(before.is_sorted() && before.len() >= 28, "{day:?}, {months}");
+                assert!(before.iter().all(|date| date.months_until(day) == months as i32));
+                assert!(before.iter().all(|&date| dates_after(date, months).contains(&day)));
+            }
+        }
     }
 }

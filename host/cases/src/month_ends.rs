@@ -32,16 +32,6 @@ pub fn month_end_case(random: &mut Generator) -> CaseFields {
     with_amounts(random, last_day(birth), last_day(commencement), pensions)
 }
 
-/// A text of so many lines, each a [`month_end_case`].
-pub fn month_end_text(random: &mut Generator, lines: usize) -> Vec<u8> {
-    let mut text = Vec::new();
-    for _ in 0..lines {
-        text.extend_from_slice(&month_end_case(random).line());
-        text.push(b'\n');
-    }
-    text
-}
-
 /// Service after the month of birth that ends by commencement, now and then of
 /// a length next to the two-and-a-quarter cap.
 fn service(random: &mut Generator, birth: Month, commencement: Month) -> (Month, Month) {

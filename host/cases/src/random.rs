@@ -4,7 +4,7 @@ use std::ops::RangeInclusive;
 
 use reference::calendar::{days_in_month, Date};
 
-use crate::fields::{dates_after, day_after, CaseFields, PensionFields};
+use crate::fields::{dates_after, dates_before, day_after, CaseFields, PensionFields};
 use crate::generator::Generator;
 
 /// Every list of 1 to 4 kinds that a case may have: kinds 2 and 3 are never at
@@ -24,7 +24,8 @@ pub fn kind_lists() -> Vec<Vec<u8>> {
     all
 }
 
-/// A good case of random kinds.
+/// A good case of random kinds. Its line, as those of all cases here, states
+/// no used allowance.
 pub fn any_case(random: &mut Generator) -> CaseFields {
     let kinds = any_kinds(random);
     good_case(random, &kinds)
@@ -43,9 +44,29 @@ pub fn good_case(random: &mut Generator, kinds: &[u8]) -> CaseFields {
     let age = age_for(random, kinds, look_up);
     let birth = birth_for(random, age);
     let commencement = random.pick(&dates_after(birth, age));
+    case_between(random, kinds, look_up, birth, commencement)
+}
+
+/// A good case of the given kinds that commences on a day. Every age that the
+/// kinds allow must be in the calendar on that day.
+pub fn good_case_on(random: &mut Generator, kinds: &[u8], commencement: Date) -> CaseFields {
+    let look_up = random.once_in(2);
+    let age = age_for(random, kinds, look_up);
+    let birth = random.pick(&dates_before(commencement, age));
+    case_between(random, kinds, look_up, birth, commencement)
+}
+
+/// A good case of a member's dates, with factors to look up or stated.
+fn case_between(
+    random: &mut Generator,
+    kinds: &[u8],
+    look_up: bool,
+    birth: Date,
+    commencement: Date,
+) -> CaseFields {
     let mut pensions: Vec<PensionFields> = Vec::new();
     for &kind in kinds {
-        let (start, end) = service(random, birth, commencement, age);
+        let (start, end) = service(random, birth, commencement);
         pensions.push(good_pension(random, kind, look_up, start, end));
     }
     with_amounts(random, birth, commencement, pensions)
@@ -65,21 +86,31 @@ pub(crate) fn with_amounts(
         commencement,
         count: pensions.len() as u8,
         pensions,
+        used_allowance: None,
         bad_character: false,
     }
 }
 
-/// A text of so many lines: random good cases, of which one in twenty has a
-/// character changed.
+/// The line of a random good case; one in twenty has a character changed.
+pub fn mixed_line(random: &mut Generator) -> Vec<u8> {
+    let mut line = any_case(random).line();
+    if random.once_in(20) {
+        let place = random.below(line.len());
+        line[place] = random.pick(b"05Fg\r");
+    }
+    line
+}
+
+/// A text of so many lines, each a [`mixed_line`].
 pub fn mixed_text(random: &mut Generator, lines: usize) -> Vec<u8> {
+    text_of(lines, || mixed_line(random))
+}
+
+/// A text of so many lines, drawn one after the other.
+pub fn text_of(lines: usize, mut line: impl FnMut() -> Vec<u8>) -> Vec<u8> {
     let mut text = Vec::new();
     for _ in 0..lines {
-        let mut line = any_case(random).line();
-        if random.once_in(20) {
-            let place = random.below(line.len());
-            line[place] = random.pick(b"05Fg\r");
-        }
-        text.extend_from_slice(&line);
+        text.extend_from_slice(&line());
         text.push(b'\n');
     }
     text
@@ -117,7 +148,8 @@ fn birth_for(random: &mut Generator, age: u32) -> Date {
 
 /// Service after birth that ends by commencement, often of a length next to
 /// the two-and-a-quarter cap.
-fn service(random: &mut Generator, birth: Date, commencement: Date, age: u32) -> (Date, Date) {
+fn service(random: &mut Generator, birth: Date, commencement: Date) -> (Date, Date) {
+    let age = birth.months_until(commencement) as u32;
     let any_length = random.within(0..=age);
     let length = random.pick(&[any_length, 0, 299, 300, 301, 358, 359, 360]).min(age);
     let earliest = day_after(birth);

@@ -2,10 +2,11 @@
 
 use std::ops::RangeInclusive;
 
+use crate::allowance;
 use crate::calendar::Date;
 use crate::case_line::{self, StatedCase, StatedPension, MOST_PENSIONS};
 use crate::factors::{self, Factor, NORMAL_PENSION_AGE, NORMAL_PENSION_YEARS};
-use crate::money::YearlyPence;
+use crate::money::{LumpPence, YearlyPence};
 use crate::refusals::Refusal;
 use crate::split::{Case, Pension};
 
@@ -42,7 +43,9 @@ pub fn accept(line: &[u8]) -> Result<Case, Refusal> {
     if !amounts_are_in_range(&stated) {
         return Err(Refusal::StatedPension);
     }
-    Ok(Case::new(stated.member, stated.pensions().len(), pensions))
+    let used = LumpPence(u64::from(stated.used_allowance));
+    let left = allowance::left(stated.commencement, used);
+    Ok(Case::new(stated.member, stated.pensions().len(), pensions, left))
 }
 
 fn dates_are_in_calendar(case: &StatedCase) -> bool {

@@ -8,16 +8,23 @@ use crate::refusals::Refusal;
 pub const MOST_PENSIONS: usize = 4;
 
 /// Characters of the longest case line.
-pub const MOST_CHARACTERS: usize = characters(MOST_PENSIONS);
+pub const MOST_CHARACTERS: usize = characters_with_used(MOST_PENSIONS);
 
 const HEAD_BYTES: usize = 13;
 const PENSION_BYTES: usize = 22;
+/// Bytes of the amount that a line may end with.
+const USED_BYTES: usize = 4;
 const DIGITS_IN_BYTE: usize = 2;
 const MOST_BYTES: usize = MOST_CHARACTERS / DIGITS_IN_BYTE;
 
 /// Characters of a case line with so many pensions, its newline left out.
 pub const fn characters(pensions: usize) -> usize {
     DIGITS_IN_BYTE * (HEAD_BYTES + pensions * PENSION_BYTES)
+}
+
+/// The same of a case line that ends with the used part of the allowance.
+pub const fn characters_with_used(pensions: usize) -> usize {
+    characters(pensions) + DIGITS_IN_BYTE * USED_BYTES
 }
 
 /// A pension as the case line states it.
@@ -42,6 +49,9 @@ pub struct StatedCase {
     pub commencement: Date,
     count: usize,
     pensions: [StatedPension; MOST_PENSIONS],
+    /// Pence already used of the lump sum allowance; 0 if the line does not
+    /// state them.
+    pub used_allowance: u32,
 }
 
 impl StatedCase {
@@ -57,7 +67,7 @@ impl StatedCase {
 
 /// Reads a case line, its newline left out. Gives refusals 1 and 2.
 pub fn read(line: &[u8]) -> Result<StatedCase, Refusal> {
-    let Some(count) = pensions_in(line.len()) else {
+    let Some(layout) = Layout::of(line.len()) else {
         // A bad character comes before a bad length.
         let all_digits = line.iter().all(|&character| hexadecimal::is_digit(character));
         return Err(if all_digits { Refusal::Length } else { Refusal::Character });
@@ -67,17 +77,35 @@ pub fn read(line: &[u8]) -> Result<StatedCase, Refusal> {
     if !hexadecimal::decode(line, bytes) {
         return Err(Refusal::Character);
     }
-    read_case(Frame { rest: bytes }, count).ok_or(Refusal::Length)
+    read_case(Frame { rest: bytes }, layout).ok_or(Refusal::Length)
 }
 
-/// The count of pensions that a line of this length has room for.
-fn pensions_in(length: usize) -> Option<usize> {
-    (1..=MOST_PENSIONS).find(|&count| characters(count) == length)
+/// What a line has room for.
+#[derive(Clone, Copy, Debug, PartialEq, Eq)]
+struct Layout {
+    pensions: usize,
+    /// Whether the used part of the allowance stands behind the pensions.
+    has_used: bool,
 }
 
-/// Reads the fields of a frame with room for `count` pensions, or nothing if
-/// the stated count disagrees.
-fn read_case(mut frame: Frame, count: usize) -> Option<StatedCase> {
+impl Layout {
+    /// The layout of the lines of a length, if there is one.
+    fn of(length: usize) -> Option<Layout> {
+        (1..=MOST_PENSIONS)
+            .flat_map(|pensions| [false, true].map(|has_used| Layout { pensions, has_used }))
+            .find(|layout| layout.characters() == length)
+    }
+
+    fn characters(self) -> usize {
+        let count = if self.has_used { characters_with_used } else { characters };
+        count(self.pensions)
+    }
+}
+
+/// Reads the fields of a frame of a layout, or nothing if the stated count
+/// disagrees with it.
+fn read_case(mut frame: Frame, layout: Layout) -> Option<StatedCase> {
+    let count = layout.pensions;
     let member = frame.number();
     let birth = frame.date();
     let commencement = frame.date();
@@ -88,7 +116,8 @@ fn read_case(mut frame: Frame, count: usize) -> Option<StatedCase> {
     for pension in &mut pensions[..count] {
         *pension = read_pension(&mut frame);
     }
-    Some(StatedCase { member, birth, commencement, count, pensions })
+    let used_allowance = if layout.has_used { frame.number() } else { 0 };
+    Some(StatedCase { member, birth, commencement, count, pensions, used_allowance })
 }
 
 fn read_pension(frame: &mut Frame) -> StatedPension {
@@ -149,11 +178,42 @@ mod tests {
         assert_eq!((pension.kind, pension.yearly, pension.f1), (1, 3_000_000, 0));
         assert_eq!(pension.start, Date::new(1993, 6, 1));
         assert_eq!(pension.end, Date::new(2023, 7, 1));
+        assert_eq!(case.used_allowance, 0);
+    }
+
+    #[test]
+    fn used_allowance_at_the_end() {
+        let line = b"0000000107B2060F07E707010101002DC6C007C9060107E70701000000000000000000";
+        for (digits, used) in [("00000000", 0), ("01995AEC", 26_827_500), ("FFFFFFFF", u32::MAX)] {
+            let case = read(&[line, digits.as_bytes()].concat()).expect("a well formed line");
+            assert_eq!(case.used_allowance, used);
+            assert_eq!(case.pensions().len(), 1);
+        }
     }
 
     #[test]
     fn lengths_of_the_rules() {
         assert_eq!([1, 2, 3, 4].map(characters), [70, 114, 158, 202]);
+        assert_eq!([1, 2, 3, 4].map(characters_with_used), [78, 122, 166, 210]);
+        let good: Vec<usize> = (0..1_000).filter(|&length| Layout::of(length).is_some()).collect();
+        assert_eq!(good, [70, 78, 114, 122, 158, 166, 202, 210]);
+        assert_eq!(MOST_CHARACTERS, 210);
+    }
+
+    #[test]
+    fn the_count_agrees_with_every_length() {
+        let lengths =
+            [(70, 1), (78, 1), (114, 2), (122, 2), (158, 3), (166, 3), (202, 4), (210, 4)];
+        for (length, pensions) in lengths {
+            for stated in 0..=9 {
+                let mut line = vec![b'0'; length];
+                line[2 * HEAD_BYTES - 1] = b'0' + stated;
+                let read = read(&line).map(|case| case.pensions().len());
+                let agrees = usize::from(stated) == pensions;
+                let expected = if agrees { Ok(pensions) } else { Err(Refusal::Length) };
+                assert_eq!(read, expected, "{length} characters, {stated} pensions");
+            }
+        }
     }
 
     #[test]
@@ -162,5 +222,9 @@ mod tests {
         assert_eq!(read(b"00").unwrap_err(), Refusal::Length);
         assert_eq!(read(b"0g").unwrap_err(), Refusal::Character);
         assert_eq!(read(&[b'0'; characters(1)]).unwrap_err(), Refusal::Length);
+        assert_eq!(read(&[b'0'; characters_with_used(1)]).unwrap_err(), Refusal::Length);
+        let mut line = [b'0'; characters_with_used(1)];
+        line[characters_with_used(1) - 1] = b'g';
+        assert_eq!(read(&line).unwrap_err(), Refusal::Character);
     }
 }

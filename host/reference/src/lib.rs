@@ -1,18 +1,19 @@
 //! Reference implementation of the retirement quotation engine for police
 //! pensions.
 //!
-//! It is written from the rules document and the first of the change requests
-//! alone and shares no code with the proved engine, so that the two can be held
-//! against each other.
+//! It is written from the rules document and the first two of the change
+//! requests alone and shares no code with the proved engine, so that the two can
+//! be held against each other.
 //!
 //! Modules use one another in one direction: [`money`], [`factors`],
-//! [`calendar`], [`hexadecimal`] and [`refusals`], then [`case_line`],
-//! [`split`], [`limit`], [`acceptance`], [`quoting`], [`register`] and
-//! [`quotes`], each only some of those before it.
+//! [`calendar`], [`hexadecimal`] and [`refusals`], then [`allowance`],
+//! [`case_line`], [`split`], [`limit`], [`acceptance`], [`quoting`],
+//! [`register`] and [`quotes`], each only some of those before it.
 
 #![forbid(unsafe_code)]
 
 pub mod acceptance;
+pub mod allowance;
 pub mod calendar;
 pub mod case_line;
 pub mod factors;

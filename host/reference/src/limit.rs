@@ -118,7 +118,7 @@ mod tests {
         let pension = Pension::new(YearlyPence(3_200_000), factor, 1000);
         let mut pensions = [Pension::NONE; MOST_PENSIONS];
         pensions[0] = pension;
-        let limit = ExactLimit::of(&Case::new(1, 1, pensions));
+        let limit = ExactLimit::of(&Case::new(1, 1, pensions, None));
         let lumps = |lump| [LumpPence(lump), LumpPence(0), LumpPence(0), LumpPence(0)];
         assert!(limit.is_kept_by(&lumps(17_015_192)));
         assert!(!limit.is_kept_by(&lumps(17_015_193)));

@@ -61,12 +61,20 @@ pub struct Case {
     pub member: u32,
     count: usize,
     pensions: [Pension; MOST_PENSIONS],
+    /// The most that the lump sums may total: what is left of the lump sum
+    /// allowance. None if there is no such limit.
+    pub allowance: Option<LumpPence>,
 }
 
 impl Case {
     /// The first `count` of `pensions` are the case's own.
-    pub fn new(member: u32, count: usize, pensions: [Pension; MOST_PENSIONS]) -> Self {
-        Case { member, count, pensions }
+    pub fn new(
+        member: u32,
+        count: usize,
+        pensions: [Pension; MOST_PENSIONS],
+        allowance: Option<LumpPence>,
+    ) -> Self {
+        Case { member, count, pensions, allowance }
     }
 
     pub fn pensions(&self) -> &[Pension] {
@@ -91,8 +99,8 @@ pub struct Quote {
 }
 
 /// The lump sums of a case: the pension with the lowest price first, equal
-/// prices in line order, each the most that its cap and the rest of the limit
-/// allow.
+/// prices in line order, each the most that its cap, the rest of the limit and
+/// the rest of the allowance allow.
 pub fn grant(case: &Case) -> [LumpPence; MOST_PENSIONS] {
     let pensions = case.pensions();
     let mut order: [usize; MOST_PENSIONS] = array::from_fn(|place| place);
@@ -102,10 +110,13 @@ pub fn grant(case: &Case) -> [LumpPence; MOST_PENSIONS] {
 
     let mut lumps = [LumpPence(0); MOST_PENSIONS];
     let mut limit = case.priced_limit();
+    let mut allowance = case.allowance;
     for &place in order.iter() {
         let pension = &pensions[place];
-        let lump = pension.cap.min(LumpPence(limit / pension.price));
+        let within_limit = pension.cap.min(LumpPence(limit / pension.price));
+        let lump = allowance.map_or(within_limit, |rest| within_limit.min(rest));
         limit -= lump.0 * pension.price;
+        allowance = allowance.map(|rest| LumpPence(rest.0 - lump.0));
         lumps[place] = lump;
     }
     lumps
@@ -121,4 +132,57 @@ pub fn quote(case: &Case) -> Quote {
         quote.second[place] = pension.second_instalment(lump[place]);
     }
     quote
+}
+
+#[cfg(test)]
+mod tests {
+    use super::*;
+
+    /// A case of kind 1 pensions of 2,000,000 with these factors.
+    fn case(factors: &[u16], allowance: Option<u64>) -> Case {
+        let mut pensions = [Pension::NONE; MOST_PENSIONS];
+        for (pension, &f1) in pensions.iter_mut().zip(factors) {
+            let factor = Factor::straight_from_service(f1);
+            *pension = Pension::new(YearlyPence(2_000_000), factor, 0);
+        }
+        Case::new(1, factors.len(), pensions, allowance.map(LumpPence))
+    }
+
+    fn granted(factors: &[u16], allowance: Option<u64>) -> [u64; MOST_PENSIONS] {
+        grant(&case(factors, allowance)).map(|LumpPence(pence)| pence)
+    }
+
+    /// The cap of factor 16 is 8,000,000 and that of factor 20 is 10,000,000;
+    /// the priced limit has room for all.
+    #[test]
+    fn the_allowance_is_spent_in_the_order_of_prices() {
+        let factors = [1600, 2000, 1600];
+        let expected = [
+            (None, [8_000_000, 10_000_000, 8_000_000]),
+            (Some(26_000_001), [8_000_000, 10_000_000, 8_000_000]),
+            (Some(26_000_000), [8_000_000, 10_000_000, 8_000_000]),
+            (Some(25_999_999), [8_000_000, 10_000_000, 7_999_999]),
+            (Some(18_000_001), [8_000_000, 10_000_000, 1]),
+            (Some(18_000_000), [8_000_000, 10_000_000, 0]),
+            (Some(10_000_001), [1, 10_000_000, 0]),
+            (Some(10_000_000), [0, 10_000_000, 0]),
+            (Some(1), [0, 1, 0]),
+            (Some(0), [0, 0, 0]),
+        ];
+        for (allowance, [first, second, third]) in expected {
+            assert_eq!(granted(&factors, allowance), [first, second, third, 0], "{allowance:?}");
+        }
+    }
+
+    /// A case whose priced limit is used up before the allowance is.
+    #[test]
+    fn the_lower_of_limit_and_allowance_holds() {
+        let factors = [4000, 4000];
+        let [first, second, ..] = granted(&factors, None);
+        let total = first + second;
+        assert!(second < first, "the priced limit is spent");
+        assert_eq!(granted(&factors, Some(total)), [first, second, 0, 0]);
+        assert_eq!(granted(&factors, Some(total + 1)), [first, second, 0, 0]);
+        assert_eq!(granted(&factors, Some(total - 1)), [first, second - 1, 0, 0]);
+    }
 }

@@ -3,6 +3,7 @@
 
 mod common;
 
+use cases::allowances::USED;
 use cases::fields::{
     at_every_place, break_rule, breakable_case, plain_case, plain_pension, CaseFields,
 };
@@ -108,10 +109,13 @@ fn kinds() {
 fn counts_and_lengths() {
     for count in 0..=6 {
         let mut case = plain_case(&vec![1; count]);
-        for stated in 0..=255 {
-            case.count = stated;
-            let agrees = usize::from(stated) == count && (1..=4).contains(&count);
-            assert_refusal(&case, if agrees { 0 } else { 2 });
+        for used in [None, Some(0), Some(u32::MAX)] {
+            case.used_allowance = used;
+            for stated in 0..=255 {
+                case.count = stated;
+                let agrees = usize::from(stated) == count && (1..=4).contains(&count);
+                assert_refusal(&case, if agrees { 0 } else { 2 });
+            }
         }
     }
 }
@@ -237,6 +241,7 @@ fn any_number_of_refusals() {
     for _ in 0..200_000 {
         let count = 1 + random.below(4);
         let mut case = breakable_case(count);
+        case.used_allowance = random.pick(&USED);
         for refusal in 1..=10 {
             if random.once_in(4) {
                 break_rule(&mut case, refusal, random.below(count));

@@ -2,6 +2,7 @@
 
 mod common;
 
+use cases::allowances::{allowance_case, any_allowance_case, cut_line};
 use cases::fields::{plain_case, refused_line};
 use cases::generator::Generator;
 use cases::random::{any_case, good_case, kind_lists};
@@ -35,6 +36,48 @@ fn good_cases_are_filed() {
             assert_eq!(after[filed.used - 1], b'\n');
         }
     }
+}
+
+/// Cases at the lump sum allowance are filed with the figures of their quotes;
+/// nothing of the used amount goes into the line.
+#[test]
+fn cases_at_the_allowance_are_filed() {
+    let mut random = Generator::for_test("cases_at_the_allowance_are_filed");
+    for kinds in kind_lists() {
+        for lines in [0, 1, 3] {
+            let free = LINE + random.below(200);
+            let register = register_with_room(&mut random, lines, 1, free);
+            let case = allowance_case(&mut random, &kinds);
+            let (filed, after) = assert_file(&register, lines * LINE, &case.line());
+            assert_eq!((filed.refusal, filed.used), (0, (lines + 1) * LINE));
+            let quote = engine::quote(&case.line());
+            let mut expected = format!("{:08X}{:08X}{:08X}", lines + 1, case.member, quote.total);
+            for place in 0..4 {
+                let (lump, remaining) = (quote.lump[place], quote.remaining[place]);
+                let second = quote.second[place];
+                expected.push_str(&format!("{lump:08X}{remaining:08X}{second:08X}"));
+            }
+            expected.push('\n');
+            assert_eq!(
+                after[lines * LINE..filed.used].escape_ascii().to_string(),
+                expected.as_bytes().escape_ascii().to_string()
+            );
+        }
+    }
+}
+
+/// The whole line of a case that has half the allowance left: a 1987 pension of
+/// 10,000,000 at factor 25, 13,413,750 used, 13,413,750 granted, and 536,550
+/// given up.
+#[test]
+fn the_written_line_of_half_the_allowance() {
+    let line = b"0000000507B2060F07E8040601010098968007C4060F07E2060F0009C400000000000000CCAD76";
+    let (_, after) = assert_file(&[0xEE; 130], 0, line);
+    let mut expected = b"000000010000000500CCAD7600CCAD760090669A".to_vec();
+    expected.resize(LINE - 1, b'0');
+    expected.push(b'\n');
+    expected.resize(130, 0xEE);
+    assert_eq!(after.escape_ascii().to_string(), expected.escape_ascii().to_string());
 }
 
 /// The whole line of the rules' example.
@@ -136,6 +179,7 @@ fn any_line(random: &mut Generator) -> Vec<u8> {
             random.digits(length)
         }
         3 if random.once_in(20) => random.digits(5_000),
+        4..7 => any_allowance_case(random).line(),
         _ => any_case(random).line(),
     }
 }
@@ -265,6 +309,9 @@ fn filed_lines_are_found_again() {
         let mut members = Vec::new();
         for _ in 0..50 {
             let mut case = any_case(&mut random);
+            if random.once_in(2) {
+                case = any_allowance_case(&mut random);
+            }
             case.member = random.within(1..=20);
             members.push(case.member);
             text.extend(case.line());
@@ -283,6 +330,20 @@ fn filed_lines_are_found_again() {
         assert_eq!(assert_find_number(&filed.register, filed.used, 51).refusal, 14);
         let nobody = assert_find_member(&filed.register, filed.used, NOBODY);
         assert_eq!((nobody.refusal, nobody.compared), (14, 50));
+    }
+}
+
+/// What a member's lines in the register total is not taken as used: the same
+/// line filed again has the same figures.
+#[test]
+fn filed_lumps_are_not_used_allowance() {
+    let mut random = Generator::for_test("filed_lumps_are_not_used_allowance");
+    for _ in 0..50 {
+        let text = [cut_line(&mut random), b"\n".to_vec()].concat().repeat(3);
+        let filed = assert_file_all(&[0; 3 * LINE], &text, &[9; 3]);
+        assert_eq!((filed.used, filed.refusals), (3 * LINE, vec![0; 3]));
+        let figures: Vec<&[u8]> = filed.register.chunks(LINE).map(|line| &line[8..]).collect();
+        assert!(figures.iter().all(|line| *line == figures[0]));
     }
 }
 

@@ -23,6 +23,11 @@ static struct pension_found_member (*const find_member)(const uint8_t *, size_t,
 #define MEMBER_2 "0000000207B2060F07E7070101020030D40007C9060107E70701000A4408E8036803E8"
 #define MEMBER_3 "0000000307B0070107E707010201001E848007C9060107E707010009C4000000000000" \
                  "03000DBBA007E6040107E70701000000000000000000"
+/* A 1987 pension of 10,000,000 at factor 25 from 6 April 2024, behind which the
+ * used part of the allowance may stand. */
+#define MEMBER_4 "0000000407B2060F07E8040601010098968007C4060F07E2060F0009C4000000000000"
+#define ALL_USED "01995AEC"
+#define SOME_USED "00989680"
 #define SHORT_LINE "00"
 /* What the first case is filed as in an empty register, up to its zeros. */
 #define FILED_1 "000000010000000100F1BACB00F1BACB0024426C"
@@ -136,6 +141,20 @@ static void try_quote(void)
     EXPECT(refused.refusal == PENSION_BAD_LENGTH && refused.member == 0 && refused.total == 0);
 }
 
+/* The same case with nothing used, with 10,000,000 used, and with all. */
+static void try_allowance(void)
+{
+    struct pension_quote nothing_used = quote_of(MEMBER_4);
+    EXPECT(nothing_used.refusal == PENSION_GRANTED && nothing_used.total == 26827500);
+    EXPECT(nothing_used.lump[0] == 26827500 && nothing_used.remaining[0] == 8926900);
+    struct pension_quote some_used = quote_of(MEMBER_4 SOME_USED);
+    EXPECT(some_used.refusal == PENSION_GRANTED && some_used.total == 16827500);
+    EXPECT(some_used.lump[0] == 16827500 && some_used.remaining[0] == 9326900);
+    struct pension_quote all_used = quote_of(MEMBER_4 ALL_USED);
+    EXPECT(all_used.refusal == PENSION_GRANTED && all_used.member == 4 && all_used.total == 0);
+    EXPECT(all_used.lump[0] == 0 && all_used.remaining[0] == 10000000);
+}
+
 /* Files members 1, 2 and 1 again, which fills the register. */
 static void try_file(uint8_t *register_bytes)
 {
@@ -233,6 +252,7 @@ int main(void)
     print_structs();
     print_constants();
     try_quote();
+    try_allowance();
     try_file(register_bytes);
     try_find(register_bytes);
     try_check(register_bytes);

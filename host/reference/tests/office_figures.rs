@@ -154,6 +154,101 @@ fn tax_free_maxima_of_the_guidance_in_force() {
     assert_eq!(figures_of_one(&case)[0] / 100, 170_151);
 }
 
+/// Both examples say that they are "also within the overall limit of £268,275":
+/// on their own dates no allowance holds, and on its first day it leaves them as
+/// they are, unless more than the rest of it was used.
+#[test]
+fn examples_within_the_overall_limit() {
+    let mut second = one_pension(1, 3_000_000, [2590, 0, 0, 0]);
+    second.birth = Date::new(1971, 12, 15);
+    let mut third = one_pension(2, 3_200_000, [2628, 2280, 872, 1000]);
+    third.birth = Date::new(1972, 6, 30);
+    let examples =
+        [(second, Date::new(2023, 12, 15), 159_058), (third, Date::new(2023, 10, 15), 170_151)];
+    for (mut case, own_day, pounds) in examples {
+        case.commencement = own_day;
+        let own_figures = figures_of_one(&case);
+        assert_eq!(own_figures[0] / 100, pounds);
+        case.commencement = Date::new(2024, 4, 6);
+        assert_eq!(figures_of_one(&case), own_figures);
+        let unused = 26_827_500 - own_figures[0] as u32;
+        case.used_allowance = Some(unused);
+        assert_eq!(figures_of_one(&case), own_figures);
+        case.used_allowance = Some(unused + 1);
+        assert_eq!(figures_of_one(&case)[0], own_figures[0] - 1);
+    }
+}
+
+/// A 1987 pension of £100,000 at factor 25 has a lump sum of 200,000,000 / 3.8
+/// pence, and from 6 April 2024 what is left of £268,275.
+#[test]
+fn the_lump_sum_allowance() {
+    let mut case = one_pension(1, 10_000_000, [2500, 0, 0, 0]);
+    case.commencement = Date::new(2024, 4, 5);
+    assert_eq!(figures_of_one(&case), [52_631_578, 7_894_737, 0]);
+    case.used_allowance = Some(u32::MAX);
+    assert_eq!(figures_of_one(&case), [52_631_578, 7_894_737, 0]);
+
+    case.commencement = Date::new(2024, 4, 6);
+    let figures = [
+        (None, [26_827_500, 8_926_900, 0]),
+        (Some(0), [26_827_500, 8_926_900, 0]),
+        (Some(10_000_000), [16_827_500, 9_326_900, 0]),
+        (Some(26_827_499), [1, 10_000_000, 0]),
+        (Some(26_827_500), [0, 10_000_000, 0]),
+        (Some(26_827_501), [0, 10_000_000, 0]),
+        (Some(u32::MAX), [0, 10_000_000, 0]),
+    ];
+    for (used, expected) in figures {
+        case.used_allowance = used;
+        assert_eq!(figures_of_one(&case), expected, "used {used:?}");
+    }
+}
+
+/// Kind 1 with kind 3, as in the figures of the two pensions: the lower price
+/// spends what is left first, wherever it stands.
+#[test]
+fn two_pensions_under_the_allowance() {
+    // 14,000,000 left is more than both have; 13,000,000 leave 500,000 for the
+    // 2015 pension, which gives up 41,666; 12,000,000 leave it nothing.
+    let figures = [
+        (12_827_500, [12_500_000, 1_382_142], [1_500_000, 582_322]),
+        (13_827_500, [12_500_000, 500_000], [1_500_000, 655_834]),
+        (14_827_500, [12_000_000, 0], [1_520_000, 697_500]),
+    ];
+    for (used, lumps, remaining) in figures {
+        for order in [[1, 3], [3, 1]] {
+            let mut case = two_pensions(order);
+            case.used_allowance = Some(used);
+            let [granted, left, _] = figures_in_order(&case, order == [3, 1]);
+            assert_eq!(granted, lumps, "used {used}");
+            assert_eq!(left, remaining, "used {used}");
+        }
+    }
+}
+
+/// The figures of a case with two pensions, the first two places swapped or not.
+fn figures_in_order(case: &CaseFields, swapped: bool) -> [[u64; 2]; 3] {
+    figures(case).map(|[first, second, rest @ ..]| {
+        assert_eq!(rest, [0; 2]);
+        if swapped {
+            [second, first]
+        } else {
+            [first, second]
+        }
+    })
+}
+
+/// Kind 2 of document 001 with £100,000 left: the second instalment is 10% of
+/// the lump sum that is granted and comes on top of the allowance.
+#[test]
+fn after_a_break_under_the_allowance() {
+    let mut case = one_pension(2, 3_200_000, [2628, 2280, 872, 1000]);
+    case.used_allowance = Some(16_827_500);
+    // 10,000,000 × 10,872,000 / (10 × (26,280,000 + 2,280,000)) is 380,672.2.
+    assert_eq!(figures_of_one(&case), [10_000_000, 2_819_328, 1_000_000]);
+}
+
 #[test]
 fn refusals_of_the_pension_office() {
     assert_eq!(refusal(b""), Some(Refusal::Length));

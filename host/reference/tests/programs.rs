@@ -8,11 +8,13 @@ use std::path::{Path, PathBuf};
 use std::process::{Command, Stdio};
 use std::thread;
 
+use cases::allowances::{any_allowance_case, USED};
 use cases::fields::{plain_case, refused_line};
 use cases::generator::Generator;
 use cases::random::any_case;
 use cases::registers::LINE;
 use common::conversation::Conversation;
+use reference::calendar::Date;
 use reference::case_line::{characters, MOST_CHARACTERS};
 use reference::quotes::REGISTER_LENGTH;
 
@@ -138,12 +140,68 @@ fn two_thousand_mixed_lines() {
                 input.extend(random.digits(length));
             }
             2 if random.once_in(2) => {}
+            3..5 => input.extend(any_allowance_case(&mut random).line()),
             _ => input.extend(any_case(&mut random).line()),
         }
         input.push(b'\n');
     }
     let printed = assert_printed(&input);
     assert!(printed.windows(4).any(|line| line == b"R12\n"));
+}
+
+/// Lines that end with a used amount, on the day before the allowance's first
+/// and on that day: the total is the third number of a printed line.
+#[test]
+fn lines_with_a_used_amount() {
+    for count in 1..=4 {
+        let mut case = plain_case(&vec![1; count]);
+        case.pensions.iter_mut().for_each(|pension| pension.yearly = 10_000_000);
+        let mut input = Vec::new();
+        for (day, used) in [5, 6].into_iter().flat_map(|day| USED.map(|used| (day, used))) {
+            case.commencement = Date::new(2024, 4, day);
+            case.used_allowance = used;
+            input.extend(case.line());
+            input.push(b'\n');
+        }
+        let printed = String::from_utf8(assert_printed(&input)).expect("digits and newlines");
+        let totals: Vec<&str> = printed.lines().map(|line| &line[16..24]).collect();
+        let (before, from_first_day) = totals.split_at(USED.len());
+        assert!(before.iter().all(|&total| total == before[0] && total > "03000000"));
+        let left = ["01995AEC", "01995AEC", "01995AEB", "00000001"];
+        assert_eq!(from_first_day[..4], left);
+        assert_eq!(from_first_day[4..], ["00000000"; 3]);
+    }
+}
+
+/// Lines of every length from that of four pensions to some more than the
+/// program keeps, with good characters and with a bad one at each of the last ten
+/// places, between good lines.
+#[test]
+fn lengths_next_to_those_of_long_lines() {
+    let mut case = plain_case(&[1, 1, 3, 3]);
+    case.used_allowance = Some(0);
+    let good = case.line();
+    for length in characters(4) - 2..=MOST_CHARACTERS + 6 {
+        let line = &[&good[..], b"0123456789"].concat()[..length];
+        let mut input = [line, b"\n", &good, b"\n"].concat();
+        let is_case = length == characters(4) || length == MOST_CHARACTERS;
+        let mut expected = if is_case { LINE } else { REFUSAL } + LINE;
+        for place in length - 10..length {
+            let mut bad = line.to_vec();
+            bad[place] = b'g';
+            input.extend(bad);
+            input.push(b'\n');
+            expected += REFUSAL;
+        }
+        input.extend(&good);
+        let printed = assert_printed(&input);
+        assert_eq!(printed.len(), expected + LINE, "{length} characters");
+        let lines: Vec<&[u8]> = printed.split(|&character| character == b'\n').collect();
+        assert_eq!(lines[0] == b"R02", !is_case, "{length} characters");
+        assert!(lines[2..12].iter().all(|line| *line == b"R01"), "{length} characters");
+        // The line ended by the input's end.
+        assert_eq!(assert_printed(line).len(), if is_case { LINE } else { REFUSAL });
+    }
 }
 
 /// Random bytes, newlines among them.
@@ -175,7 +233,7 @@ fn a_bad_character_anywhere_in_a_long_line() {
     // Of a line without its end the program keeps one character more than a
     // case line has, and reads on behind those.
     let kept = MOST_CHARACTERS + 1;
-    let near_kept = [0, 1, kept - 1, kept, kept + 1, 300];
+    let near_kept = [0, 1, characters(4), characters(4) + 1, kept - 1, kept, kept + 1, 300];
     let near_blocks = [BLOCK - kept - 1, BLOCK - kept, BLOCK - 1, BLOCK, 2 * BLOCK - kept - 1];
     for place in near_kept.into_iter().chain(near_blocks).chain([199_999]) {
         let mut long = vec![b'F'; 200_000];
@@ -187,17 +245,22 @@ fn a_bad_character_anywhere_in_a_long_line() {
     }
 }
 
-/// Lines of the greatest length and of one more, cut anywhere by a block's end.
+/// Lines of the greatest length, with a used amount and without, and of one more,
+/// cut anywhere by a block's end.
 #[test]
 fn lines_across_a_block() {
-    let good = plain_case(&[1, 1, 3, 3]).line();
-    for before in (0..=MOST_CHARACTERS + 2).step_by(3) {
-        let mut input = vec![b'\n'; BLOCK - before];
-        for line in [&good[..], b"\n", &good, b"0\n", &good] {
-            input.extend_from_slice(line);
+    let mut case = plain_case(&[1, 1, 3, 3]);
+    for used in [None, Some(26_000_000)] {
+        case.used_allowance = used;
+        let good = case.line();
+        for before in (0..=good.len() + 2).step_by(3) {
+            let mut input = vec![b'\n'; BLOCK - before];
+            for line in [&good[..], b"\n", &good, b"0\n", &good] {
+                input.extend_from_slice(line);
+            }
+            let printed = assert_printed(&input);
+            assert_eq!(printed.len(), REFUSAL * (BLOCK - before) + 2 * LINE + REFUSAL);
         }
-        let printed = assert_printed(&input);
-        assert_eq!(printed.len(), REFUSAL * (BLOCK - before) + 2 * LINE + REFUSAL);
     }
 }
 

@@ -2,12 +2,13 @@
 
 mod common;
 
+use cases::allowances::{allowance_case, any_allowance_case};
 use cases::fields::CaseFields;
 use cases::generator::Generator;
 use cases::random::{any_case, good_case, kind_lists};
 use common::compare::{assert_quote, assert_refusal};
 use reference::calendar::Date;
-use reference::case_line::{characters, MOST_CHARACTERS};
+use reference::case_line::{characters, characters_with_used, MOST_CHARACTERS};
 
 #[test]
 fn good_cases_of_every_kind_and_count() {
@@ -15,6 +16,8 @@ fn good_cases_of_every_kind_and_count() {
     for kinds in kind_lists() {
         for _ in 0..5_000 {
             let case = good_case(&mut random, &kinds);
+            assert_refusal(&case, 0);
+            let case = allowance_case(&mut random, &kinds);
             assert_refusal(&case, 0);
         }
     }
@@ -26,11 +29,20 @@ fn good_cases_of_every_kind_and_count() {
 fn good_cases_with_changed_fields() {
     let mut random = Generator::for_test("good_cases_with_changed_fields");
     for _ in 0..600_000 {
-        let mut case = any_case(&mut random);
+        let mut case = any_good_case(&mut random);
         for _ in 0..=random.below(2) {
             change_field(&mut random, &mut case);
         }
         assert_quote(&case.line());
+    }
+}
+
+/// A good case, at the lump sum allowance or anywhere.
+fn any_good_case(random: &mut Generator) -> CaseFields {
+    if random.once_in(2) {
+        any_case(random)
+    } else {
+        any_allowance_case(random)
     }
 }
 
@@ -41,7 +53,7 @@ fn change_field(random: &mut Generator, case: &mut CaseFields) {
         random.pick(&[0, 1, 2, 499, 500, 1000, 1001, 4000, 4001, 10_000, 10_001, any as u16]);
     let date = random_date(random);
     let pension = &mut case.pensions[place];
-    match random.below(12) {
+    match random.below(13) {
         0 => pension.kind = (any % 5) as u8,
         1 => pension.yearly = random.pick(&[0, 1, 50_000_000, 50_000_001, any as u32]),
         2 => pension.start = date,
@@ -53,6 +65,7 @@ fn change_field(random: &mut Generator, case: &mut CaseFields) {
         8 => pension.increase = number,
         9 => case.birth = date,
         10 => case.commencement = date,
+        11 => case.used_allowance = random.pick(&[None, Some(0), Some(any as u32)]),
         _ => case.count = (any % 6) as u8,
     }
 }
@@ -88,8 +101,10 @@ fn good_lines_with_one_other_character() {
     for kinds in
         kind_lists().into_iter().filter(|kinds| kinds.len() == 1 || kinds.ends_with(&[1, 2]))
     {
-        for _ in 0..3 {
-            let line = good_case(&mut random, &kinds).line();
+        for round in 0..4 {
+            let mut case = good_case(&mut random, &kinds);
+            case.used_allowance = [None, None, Some(0), Some(20_000_000)][round];
+            let line = case.line();
             for place in 0..line.len() {
                 for &character in CHARACTERS {
                     let mut other = line.clone();
@@ -118,6 +133,28 @@ fn good_lines_cut_and_extended() {
         // A whole further pension, which the count does not know of.
         let further = random.digits(characters(1) - characters(0));
         assert_quote(&[line, further].concat());
+    }
+}
+
+/// Lines that end with a used amount: cut down to the old length they are good
+/// too, and cut or extended to any other length they are not.
+#[test]
+fn good_lines_with_a_used_amount_cut_and_extended() {
+    let mut random = Generator::for_test("good_lines_with_a_used_amount_cut_and_extended");
+    for kinds in kind_lists() {
+        let mut case = good_case(&mut random, &kinds);
+        case.used_allowance = Some(random.next() as u32);
+        let line = case.line();
+        let old_length = characters(kinds.len());
+        assert_eq!(line.len(), characters_with_used(kinds.len()));
+        for length in 0..=line.len() {
+            let is_good = length == old_length || length == line.len();
+            assert_eq!(assert_quote(&line[..length]).refusal, if is_good { 0 } else { 2 });
+        }
+        for further in 1..=60 {
+            let digits = random.digits(further);
+            assert_eq!(assert_quote(&[&line[..], &digits].concat()).refusal, 2);
+        }
     }
 }
 

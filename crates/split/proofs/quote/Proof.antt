@@ -8,7 +8,7 @@ use Rattle.split.specs.Frame.{badCharacter}
 use Rattle.split.specs.Case.{headOf, longestLine}
 use Rattle.split.specs.Bytes.{blockLength}
 use Rattle.split.specs.Refusal.{badLength}
-use Rattle.split.proofs.ReadingLaws.{count-listed, length-listed, length-unlisted, length-between, refused-character, refused-length, refused-case}
+use Rattle.split.proofs.ReadingLaws.{length-unlisted, length-between, refused-character, refused-length, refused-case}
 use Rattle.split.proofs.QuoteLaws.{quote-refused, quote-read}
 use Rattle.split.proofs.quote.Statement.{statement}
 use Rattle.split.proofs.quote.Tie as tie
@@ -54,7 +54,7 @@ case-quote-requires : tie.Need-case-quote-requires
 case-quote-requires c κs =
     let e = c .before .before in
     let r = e .before .before .before in
-    (r .read-head .ensures .next, count-listed _ _ (measured e))
+    (r .read-head .ensures .next, measured e)
 
 returns-4 : tie.Need-returns-4
 returns-4 c =
@@ -62,7 +62,7 @@ returns-4 c =
     let r = e .before .before .before in
     let d = r .before .before in
     quote-read _ _ _ (headed r) (refused-case _ _ (digits d) (headed r) (measured e))
-    (c .case-quote .ensures _ (d .before .decode .ensures .1 (d .if2 .left)) (omega (arith, length-listed _ _ (measured e))))
+    (c .case-quote .ensures _ (d .before .decode .ensures .1 (d .if2 .left)) (omega arith))
 
 pub quote-spec : {M : Type 1} → statement M
 quote-spec =

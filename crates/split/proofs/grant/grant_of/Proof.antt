@@ -16,10 +16,10 @@ use Rattle.split.proofs.grant.grant_of.Statement.{statement}
 use Rattle.split.proofs.grant.grant_of.Tie as tie
 
 abbrev Inv-loop : tie.InvT-loop
-Inv-loop pensions prices caps n lumps sum₀ i₀ sum i = (i ≤ n) × (sum ≡ total (take i pensions))
+Inv-loop pensions prices caps n allowance lumps sum₀ i₀ sum i = (i ≤ n) × (sum ≡ total (take i pensions))
 
 abbrev μ-loop : tie.MeasureT-loop
-μ-loop pensions prices caps n lumps sum₀ i₀ sum i = n - i
+μ-loop pensions prices caps n allowance lumps sum₀ i₀ sum i = n - i
 
 loop-holds : tie.Need-loop-holds Inv-loop μ-loop
 loop-holds c = (zero-le, refl)
@@ -73,7 +73,7 @@ returns c =
     let a = after .before .before .args in
     let given = c .take-turns .ensures in (
       given .0
-          ∙ ap (λ (t : ℕ). lumpsOf (turns (a .n) (take (a .n) (rowsIn (a .prices .now) (a .caps .now) (replicate 4 0) (replicate 4 true))) (20000000000 * t)))
+          ∙ ap (λ (t : ℕ). lumpsOf (turns (a .n) (take (a .n) (rowsIn (a .prices .now) (a .caps .now) (replicate 4 0) (replicate 4 true))) (20000000000 * t) (a .allowance)))
           (summed after),
       given .1,
       given .2,

@@ -86,11 +86,17 @@ gone c =
     let l = c .before .loop in
     gone-all (l .i) _ _ _ _ (le-antisymm (l .inv .0) (c .loop-test .left)) (l .inv .1) (l .inv .3)
 
+-- and the cursor stands behind them
+behind : (c : tie.After-loop Inv-loop μ-loop) → c .before .loop .next .at ≡ caseLength (c .before .before .before .before .args .n)
+behind c = let l = c .before .loop in omega (arith, l .inv .0, c .loop-test .left, l .inv .1)
+
 returns : tie.Need-returns Inv-loop μ-loop
-returns c = gone-above (gone (c .before .before)) _ (c .before .if1 .taken) (c .lower-of2 .ensures)
+returns c =
+    let after = c .before .before in
+    (gone-above (gone after) _ (c .before .if1 .taken) (c .lower-of2 .ensures), behind after)
 
 returns-2 : tie.Need-returns-2 Inv-loop μ-loop
-returns-2 c = gone-within (gone (c .before)) (c .if1 .left)
+returns-2 c = (gone-within (gone (c .before)) (c .if1 .left), behind (c .before))
 
 pub work-out-spec : {M : Type 1} → statement M
 work-out-spec =
