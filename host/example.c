@@ -1,6 +1,7 @@
-/* Quotes a case, and one that the lump sum allowance cuts, files both with two
- * others, finds lines again by number and by member, and prints it all: money in
- * pounds and pence, and how many lines were compared to find a member. */
+/* Quotes a case, and one that the lump sum allowance cuts, commutes two small
+ * pensions, files both cases with two others, finds lines again by number and by
+ * member, and prints it all: money in pounds and pence, and how many lines were
+ * compared to find a member. */
 #include <inttypes.h>
 #include <stdio.h>
 #include <string.h>
@@ -48,6 +49,23 @@ static uint64_t print_quote(const char *case_line)
         print_amount("  second instalment", quote.second[k]);
     }
     return quote.total;
+}
+
+/* Commutes a small pension, given the member's and the survivor's in pence a year,
+ * and prints the lump sum, or that there is none. */
+static struct pension_commuted print_commuted(uint32_t scheme, uint32_t age,
+                                              uint64_t member_pension, uint64_t survivor_pension)
+{
+    struct pension_commuted commuted =
+        pension_trivial_commutation(scheme, age, member_pension, survivor_pension);
+    printf("small pension of the %" PRIu32 " scheme at %" PRIu32 ", in pounds\n", scheme, age);
+    print_amount("member a year", member_pension);
+    print_amount("survivor a year", survivor_pension);
+    if (commuted.refusal != PENSION_GRANTED)
+        printf("  refused with %" PRIu32 "\n", commuted.refusal);
+    else
+        print_amount("lump sum", commuted.lump);
+    return commuted;
 }
 
 /* Files every case and gives the used length, or 0 if one is refused. */
@@ -102,6 +120,12 @@ int main(void)
 
     /* The rest of the allowance is less than the pension could give. */
     if (print_quote(case_lines[CASES - 1]) != ALLOWANCE_LEFT)
+        return 1;
+
+    /* Examples 1 and 2 of the actuary's guidance, and an age that has no factors. */
+    if (print_commuted(1987, 68, 65000, 32500).lump != 1059500
+        || print_commuted(2006, 65, 100000, 50000).lump != 1795000
+        || print_commuted(2015, 59, 100000, 50000).refusal != PENSION_NOT_COMMUTABLE)
         return 1;
 
     size_t used = file_cases();

@@ -10,11 +10,15 @@
  * more was used; second instalments do not count. Earlier commencements have no
  * such limit and ignore the amount.
  *
+ * Small pensions. pension_trivial_commutation gives the lump sum for the whole of a
+ * former officer's small pension. It stands beside the quotes: it takes numbers
+ * alone, no case line and no register, and the allowance does not limit it.
+ *
  * What the engine is lent. Every pointer is lent for the length of the call
  * alone; nothing is kept afterwards. Each pointer must have its length in bytes
  * behind it, and may be NULL where that is 0. Buffers of one call must not
  * overlap where one of them is written. Beyond that no argument is an error of
- * the caller: every used length and every byte gets its answer or its refusal.
+ * the caller: every number and every byte gets its answer or its refusal.
  *
  * What is written. pension_file, pension_file_lines and pension_file_all write
  * register lines behind the used part and no other byte of the register; the
@@ -52,7 +56,8 @@ extern "C" {
 /* The most pensions a case has. */
 #define PENSION_MOST 4
 
-/* The refusals, lowest first: of the case line, of the register, of finding. */
+/* The refusals, lowest first: of the case line, of the register, of finding, of
+ * trivial commutation. */
 enum pension_refusal {
     PENSION_GRANTED = 0,         /* no refusal */
     PENSION_BAD_CHARACTER = 1,   /* a character is not 0-9 or A-F */
@@ -64,12 +69,13 @@ enum pension_refusal {
     PENSION_UNKNOWN_KIND = 6,    /* a kind is not 1, 2 or 3 */
     PENSION_BAD_TERMS = 7,       /* a factor, the pension increase or the flag is outside its list */
     PENSION_WRONG_AGE = 8,       /* kind 2 at 660 months or more, or kind 3 below */
-    PENSION_NO_FACTOR = 9,       /* kind 1 or 2 without F1, and no age of Table 1 */
+    PENSION_NO_FACTOR = 9,       /* kind 1 or 2 without F1, and no age of document 001's Table 1 */
     PENSION_BAD_AMOUNT = 10,     /* a stated pension is 0, or all are above 50,000,000 together */
     PENSION_BAD_REGISTER = 11,   /* the used length, or a line of the register, is bad */
     PENSION_NO_SPACE = 12,       /* fewer bytes free than a line has */
     PENSION_NO_NUMBER = 13,      /* the last number is FFFFFFFF */
-    PENSION_ABSENT = 14          /* no line has the number, or the member */
+    PENSION_ABSENT = 14,         /* no line has the number, or the member */
+    PENSION_NOT_COMMUTABLE = 15  /* the scheme, the age or a pension is outside what trivial commutation takes */
 };
 
 /* A quote. The figures of pension k of the case, counted from 0, are at place
@@ -118,6 +124,12 @@ struct pension_found_member {
     size_t compared; /* one more than the number of newer lines; with 14: all lines; with 11: 0 */
 };
 
+/* The trivial commutation of a small pension. */
+struct pension_commuted {
+    uint32_t refusal; /* 0 or 15 */
+    uint64_t lump;    /* with 0: the lump sum */
+};
+
 /* The quote of a case line (its newline left out). Refusals 1 to 10. */
 struct pension_quote pension_quote(const uint8_t *line, size_t line_length);
 
@@ -153,6 +165,26 @@ struct pension_found pension_find_number(const uint8_t *register_bytes, size_t r
  * before any line is compared. */
 struct pension_found_member pension_find_member(const uint8_t *register_bytes, size_t register_length,
                                                 size_t used, uint32_t member);
+
+/* The trivial commutation of a former officer's small pension in payment: the
+ * member's pension times its factor plus the survivor's pension times its factor,
+ * the sum taken down to the penny once. The factors are those of the age in the
+ * actuary's tables for small pensions: Table 1 of document 004 for the 1987
+ * scheme, Table 2 for the others. Nothing is written, and no register is involved.
+ * Whether the law lets a pension of that size be commuted so is for the caller to
+ * know. Refusal 15.
+ *
+ * scheme            the year of the member's scheme: 1987, 2006 or 2015
+ * age               the member's age in completed years, 60 to 99
+ * member_pension    the total pension in payment to the member, after any
+ *                   commutation for a lump sum, in pence a year, 1 to 50,000,000
+ * survivor_pension  what a survivor would be paid if the member died that day,
+ *                   whether or not the member has a dependant, in pence a year,
+ *                   0 to 50,000,000
+ *
+ * Any other value of one of them is refused; none is cut to fewer bits. */
+struct pension_commuted pension_trivial_commutation(uint32_t scheme, uint32_t age,
+                                                    uint64_t member_pension, uint64_t survivor_pension);
 
 #ifdef __cplusplus
 }

@@ -3,6 +3,7 @@
 use calendar::Date;
 use factors::money::YearlyPence;
 use libc::STDOUT_FILENO;
+use trivial_commutation::YearlyAmount;
 
 fn text(words: &[u8]) {
     io::write_all(STDOUT_FILENO, words);
@@ -101,6 +102,21 @@ fn allowance() {
     text(b" (no allowance: 20 x 60,000 / 3.8)\n");
 }
 
+// The trivial commutation of a small pension in payment, with the survivor's pension.
+fn commutation(scheme: u32, age: u32, member: YearlyAmount, survivor: YearlyAmount) {
+    let commuted = trivial_commutation::commute(scheme, age, member, survivor);
+    pounds(commuted.lump.0);
+    text(b" pounds for a small pension");
+}
+
+fn small_pensions() {
+    text(b"Document 004, example 1: ");
+    commutation(1987, 68, YearlyAmount(65000), YearlyAmount(32500));
+    text(b" (printed: 10,595)\nDocument 004, example 2: ");
+    commutation(2006, 65, YearlyAmount(100000), YearlyAmount(50000));
+    text(b" (printed: 17,950.00)\n");
+}
+
 fn refusals() {
     text(b"Empty line: ");
     refusal(b"");
@@ -128,6 +144,7 @@ fn main() {
     examples();
     overall_limit();
     allowance();
+    small_pensions();
     refusals();
     totals();
 }

@@ -8,12 +8,14 @@ use Rattle.register.specs.declared.answers.Located.{Located}
 use Rattle.register.specs.declared.answers.LocatedMember.{LocatedMember}
 use Rattle.register.specs.Layout.{Register}
 use Rattle.register.specs.Text.{FiledText}
+use Rattle.trivial_commutation.specs.declared.Commuted.{Commuted}
 use Rattle.pension.specs.declared.answers.PensionQuote.{PensionQuote}
 use Rattle.pension.specs.declared.answers.PensionChecked.{PensionChecked}
 use Rattle.pension.specs.declared.answers.PensionFiled.{PensionFiled}
 use Rattle.pension.specs.declared.answers.PensionFiledLines.{PensionFiledLines}
 use Rattle.pension.specs.declared.answers.PensionFound.{PensionFound}
 use Rattle.pension.specs.declared.answers.PensionFoundMember.{PensionFoundMember}
+use Rattle.pension.specs.declared.answers.PensionCommuted.{PensionCommuted}
 
 -- a quote, with the figures of its four shares side by side
 unfoldable pub quoteForC : Quote → PensionQuote
@@ -51,3 +53,7 @@ foundMemberForC m = record {
   length = m .located .length;
   compared = m .compared;
 }
+
+-- the trivial commutation of a small pension
+unfoldable pub commutedForC : Commuted → PensionCommuted
+commutedForC c = record { refusal = c .refusal; lump = c .lump .0 }

@@ -50,3 +50,10 @@ pub struct PensionFoundMember {
     pub length: usize,
     pub compared: usize,
 }
+
+// The trivial commutation of a small pension: refusal 0 and the lump sum, or refusal 15 and 0.
+#[repr(C)]
+pub struct PensionCommuted {
+    pub refusal: u32,
+    pub lump: u64,
+}

@@ -1,8 +1,9 @@
-// The C interface: quoting, checking, filing and finding under their C names, with the same promises. A slice passes as a
-// pointer and a length. host/include/pension.h declares these for C.
+// The C interface: quoting, checking, filing, finding and trivial commutation under their C names, with the same promises. A
+// slice passes as a pointer and a length. host/include/pension.h declares these for C.
 mod answers;
 
 use answers::PensionChecked;
+use answers::PensionCommuted;
 use answers::PensionFiled;
 use answers::PensionFiledLines;
 use answers::PensionFound;
@@ -12,6 +13,7 @@ use register::answers::Filed;
 use register::answers::Located;
 use register::answers::LocatedMember;
 use split::answers::Quote;
+use trivial_commutation::YearlyAmount;
 ghost use mathlib.Core.Path.{_≡_};
 ghost use lib.ListN.{length, take, drop};
 ghost use Rattle.split.specs.Quote.{quoteOf};
@@ -20,7 +22,8 @@ ghost use Rattle.register.specs.Find.{hasNumber, hasMember, findLine, locate, l
 ghost use Rattle.register.specs.Layout.{lent};
 ghost use Rattle.register.specs.File.{filing, fileStep};
 ghost use Rattle.register.specs.Text.{FiledAll};
-ghost use Rattle.pension.specs.Interface.{quoteForC, checkedForC, filedForC, FiledTextForC, foundForC, foundMemberForC};
+ghost use Rattle.trivial_commutation.specs.TrivialCommutation.{trivialCommutation};
+ghost use Rattle.pension.specs.Interface.{quoteForC, checkedForC, filedForC, FiledTextForC, foundForC, foundMemberForC, commutedForC};
 
 // The figures of a quote's four shares side by side, in the width that C has them.
 fn quote_for_c(quote: Quote) -> PensionQuote
@@ -155,4 +158,23 @@ pub extern "C" fn pension_find_member(
 {
     let found = register::locate_member(register, used, member);
     found_member_for_c(found)
+}
+
+// Commutes the small pension of a scheme in payment to a former officer of an age, and the survivor's pension with it.
+#[no_mangle]
+pub extern "C" fn pension_trivial_commutation(
+    scheme: u32,
+    age: u32,
+    member_pension: u64,
+    survivor_pension: u64,
+) -> PensionCommuted
+    ensures { λ r. ⌜ r ≡ commutedForC (trivialCommutation scheme age «member_pension» «survivor_pension») ⌝ }
+{
+    let member = YearlyAmount(member_pension);
+    let survivor = YearlyAmount(survivor_pension);
+    let commuted = trivial_commutation::commute(scheme, age, member, survivor);
+    PensionCommuted {
+        refusal: commuted.refusal as u32,
+        lump: commuted.lump.0 as u64,
+    }
 }

@@ -2,7 +2,7 @@
 
 use std::ops::Range;
 
-use engine::{Checked, Filed, Found, FoundMember, Quote};
+use engine::{Checked, Commuted, Filed, Found, FoundMember, Quote};
 use reference::money::{LumpPence, YearlyPence};
 use reference::register::{self as book, MemberSearch};
 use reference::Refusal;
@@ -46,6 +46,19 @@ pub fn find_member(register: &[u8], used: usize, member: u32) -> FoundMember {
             FoundMember { refusal, offset, length, compared }
         }
         Err(refusal) => FoundMember { refusal: number(refusal), ..FoundMember::default() },
+    }
+}
+
+pub fn trivial_commutation(
+    scheme: u32,
+    age: u32,
+    member_pension: u64,
+    survivor_pension: u64,
+) -> Commuted {
+    let (member, survivor) = (YearlyPence(member_pension), YearlyPence(survivor_pension));
+    match reference::trivial_commutation::lump_sum(scheme, age, member, survivor) {
+        Ok(lump) => Commuted { refusal: 0, lump: lump.0 },
+        Err(refusal) => Commuted { refusal: number(refusal), lump: 0 },
     }
 }
 

@@ -1,9 +1,10 @@
 //! The retirement quotation engine, called through its C interface.
 //!
-//! Each call takes slices and gives the C struct of the same subject. Under a
-//! refusal every figure but `refusal` is 0 (the offset of a check, and the count
-//! of lines compared for an absent member, apart). [`optional`] holds the same
-//! calls for a host that lends a null pointer in place of an empty buffer.
+//! Each call takes slices, or numbers alone, and gives the C struct of the same
+//! subject. Under a refusal every figure but `refusal` is 0 (the offset of a
+//! check, and the count of lines compared for an absent member, apart).
+//! [`optional`] holds the calls with slices for a host that lends a null pointer
+//! in place of an empty buffer.
 
 mod raw;
 
@@ -71,6 +72,15 @@ pub struct FoundMember {
     pub compared: usize,
 }
 
+/// The trivial commutation of a small pension: with refusal 0 its lump sum, in
+/// whole pence.
+#[repr(C)]
+#[derive(Clone, Copy, Debug, Default, PartialEq, Eq)]
+pub struct Commuted {
+    pub refusal: u32,
+    pub lump: u64,
+}
+
 /// Quotes one case line, its newline left out.
 pub fn quote(line: &[u8]) -> Quote {
     optional::quote(Some(line))
@@ -112,4 +122,16 @@ pub fn find_number(register: &[u8], used: usize, number: u32) -> Found {
 /// Finds the newest register line of a member and counts the lines compared.
 pub fn find_member(register: &[u8], used: usize, member: u32) -> FoundMember {
     optional::find_member(Some(register), used, member)
+}
+
+/// Commutes a former officer's small pension in payment. The scheme is its year,
+/// the age is in completed years, and the pensions are in pence a year.
+pub fn trivial_commutation(
+    scheme: u32,
+    age: u32,
+    member_pension: u64,
+    survivor_pension: u64,
+) -> Commuted {
+    // SAFETY: the call takes numbers alone, and the engine tests them itself.
+    unsafe { raw::pension_trivial_commutation(scheme, age, member_pension, survivor_pension) }
 }

@@ -1,6 +1,6 @@
 //! The C declarations, one for one.
 
-use crate::{Checked, Filed, FiledLines, Found, FoundMember, Quote};
+use crate::{Checked, Commuted, Filed, FiledLines, Found, FoundMember, Quote};
 
 extern "C" {
     pub fn pension_quote(line: *const u8, line_length: usize) -> Quote;
@@ -47,4 +47,11 @@ extern "C" {
         used: usize,
         member: u32,
     ) -> FoundMember;
+
+    pub fn pension_trivial_commutation(
+        scheme: u32,
+        age: u32,
+        member_pension: u64,
+        survivor_pension: u64,
+    ) -> Commuted;
 }

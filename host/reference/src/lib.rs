@@ -1,14 +1,14 @@
 //! Reference implementation of the retirement quotation engine for police
 //! pensions.
 //!
-//! It is written from the rules document and the first two of the change
-//! requests alone and shares no code with the proved engine, so that the two can
-//! be held against each other.
+//! It is written from the rules document, the first three of the change requests
+//! and the tables of the source documents alone and shares no code with the
+//! proved engine, so that the two can be held against each other.
 //!
 //! Modules use one another in one direction: [`money`], [`factors`],
-//! [`calendar`], [`hexadecimal`] and [`refusals`], then [`allowance`],
-//! [`case_line`], [`split`], [`limit`], [`acceptance`], [`quoting`],
-//! [`register`] and [`quotes`], each only some of those before it.
+//! [`calendar`], [`hexadecimal`] and [`refusals`], then [`trivial_commutation`],
+//! [`allowance`], [`case_line`], [`split`], [`limit`], [`acceptance`],
+//! [`quoting`], [`register`] and [`quotes`], each only some of those before it.
 
 #![forbid(unsafe_code)]
 
@@ -25,6 +25,7 @@ pub mod quoting;
 pub mod refusals;
 pub mod register;
 pub mod split;
+pub mod trivial_commutation;
 
 pub use quoting::quote;
 pub use refusals::Refusal;

@@ -32,10 +32,12 @@ pub enum Refusal {
     LastNumber = 13,
     /// No such line in the register.
     Absent = 14,
+    /// Trivial commutation has no such scheme, age or pension.
+    NotCommutable = 15,
 }
 
 impl Refusal {
-    /// The number of the refusal in the rules document.
+    /// The number of the refusal in the rules document and the change requests.
     pub fn number(self) -> u8 {
         self as u8
     }

@@ -16,6 +16,8 @@ static size_t (*const file_all)(uint8_t *, size_t, const uint8_t *, size_t, uint
 static struct pension_found (*const find_number)(const uint8_t *, size_t, size_t, uint32_t) = pension_find_number;
 static struct pension_found_member (*const find_member)(const uint8_t *, size_t, size_t,
                                                         uint32_t) = pension_find_member;
+static struct pension_commuted (*const trivial_commutation)(uint32_t, uint32_t, uint64_t,
+                                                            uint64_t) = pension_trivial_commutation;
 
 /* Cases of document 01, by member: the example of the program, a kind 2 pension,
  * and kind 1 with kind 3. */
@@ -77,6 +79,9 @@ static void print_structs(void)
     FIELD(pension_found_member, offset);
     FIELD(pension_found_member, length);
     FIELD(pension_found_member, compared);
+    STRUCT(pension_commuted);
+    FIELD(pension_commuted, refusal);
+    FIELD(pension_commuted, lump);
 }
 
 static void print_constants(void)
@@ -99,6 +104,7 @@ static void print_constants(void)
     CONSTANT(PENSION_NO_SPACE);
     CONSTANT(PENSION_NO_NUMBER);
     CONSTANT(PENSION_ABSENT);
+    CONSTANT(PENSION_NOT_COMMUTABLE);
 }
 
 static struct pension_quote quote_of(const char *line)
@@ -244,6 +250,34 @@ static void try_texts(void)
     EXPECT(found.offset == LINE && found.compared == 2);
 }
 
+/* Examples 1 and 2 of document 004, the most that can be paid, a sum that ends in
+ * tenths, and each argument outside its bounds, the pensions also by 32 bits. */
+static void try_trivial_commutation(void)
+{
+    struct pension_commuted of_1987 = trivial_commutation(1987, 68, 65000, 32500);
+    EXPECT(of_1987.refusal == PENSION_GRANTED && of_1987.lump == 1059500);
+    struct pension_commuted of_2006 = trivial_commutation(2006, 65, 100000, 50000);
+    EXPECT(of_2006.refusal == PENSION_GRANTED && of_2006.lump == 1795000);
+    struct pension_commuted of_2015 = trivial_commutation(2015, 60, 50000000, 50000000);
+    EXPECT(of_2015.refusal == PENSION_GRANTED && of_2015.lump == 1110000000);
+    struct pension_commuted taken_down = trivial_commutation(1987, 68, 1, 1);
+    EXPECT(taken_down.refusal == PENSION_GRANTED && taken_down.lump == 17);
+
+    const struct pension_commuted refused[] = {
+        trivial_commutation(1988, 68, 65000, 32500),
+        trivial_commutation(1987, 59, 65000, 32500),
+        trivial_commutation(1987, 100, 65000, 32500),
+        trivial_commutation(1987, 68, 0, 32500),
+        trivial_commutation(1987, 68, 50000001, 32500),
+        trivial_commutation(1987, 68, 65000, 50000001),
+        trivial_commutation(1987, 68, (UINT64_C(1) << 32) + 65000, 32500),
+        trivial_commutation(1987, 68, 65000, (UINT64_C(1) << 32) + 32500),
+        trivial_commutation(UINT32_MAX, UINT32_MAX, UINT64_MAX, UINT64_MAX),
+    };
+    for (size_t k = 0; k < sizeof refused / sizeof refused[0]; k++)
+        EXPECT(refused[k].refusal == PENSION_NOT_COMMUTABLE && refused[k].lump == 0);
+}
+
 int main(void)
 {
     uint8_t register_bytes[ROOM];
@@ -257,5 +291,6 @@ int main(void)
     try_find(register_bytes);
     try_check(register_bytes);
     try_texts();
+    try_trivial_commutation();
     return failures != 0;
 }

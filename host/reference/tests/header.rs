@@ -8,7 +8,7 @@ use std::mem::{offset_of, size_of};
 use std::path::{Path, PathBuf};
 use std::process::Command;
 
-use engine::{Checked, Filed, FiledLines, Found, FoundMember, Quote, MOST_PENSIONS};
+use engine::{Checked, Commuted, Filed, FiledLines, Found, FoundMember, Quote, MOST_PENSIONS};
 use reference::{case_line, register, Refusal};
 
 /// Every warning is an error.
@@ -70,6 +70,7 @@ fn structs() -> String {
     write_struct!(text, "pension_filed_lines", FiledLines: used, lines);
     write_struct!(text, "pension_found", Found: refusal, offset, length);
     write_struct!(text, "pension_found_member", FoundMember: refusal, offset, length, compared);
+    write_struct!(text, "pension_commuted", Commuted: refusal, lump);
     text
 }
 
@@ -96,6 +97,7 @@ fn constants() -> String {
         ("NO_SPACE", Refusal::NoSpace),
         ("NO_NUMBER", Refusal::LastNumber),
         ("ABSENT", Refusal::Absent),
+        ("NOT_COMMUTABLE", Refusal::NotCommutable),
     ];
     let refusals = refusals.map(|(name, refusal)| (name, usize::from(refusal.number())));
     lengths

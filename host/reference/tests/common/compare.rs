@@ -6,7 +6,7 @@ use std::thread;
 use cases::answers;
 use cases::fields::CaseFields;
 use cases::registers::LINE;
-use engine::{Checked, Filed, Found, FoundMember, Quote};
+use engine::{Checked, Commuted, Filed, Found, FoundMember, Quote};
 
 use super::guarded::{lend, lend_mut};
 
@@ -87,6 +87,14 @@ fn figures_by_rule(found: &FoundMember, lines: usize) -> FoundMember {
         14 => FoundMember { compared: lines, ..none },
         _ => none,
     }
+}
+
+/// Commutes a small pension with both and gives what they agree on.
+pub fn assert_trivial_commutation(scheme: u32, age: u32, member: u64, survivor: u64) -> Commuted {
+    let commuted = engine::trivial_commutation(scheme, age, member, survivor);
+    let expected = answers::trivial_commutation(scheme, age, member, survivor);
+    assert_eq!(commuted, expected, "scheme {scheme}, age {age}, pensions {member} and {survivor}");
+    commuted
 }
 
 /// Files a line with both, starting from the same bytes. Asserts that both

@@ -1,0 +1,5 @@
+-- Names: `XLaws` has laws of the definitions of specs/X; every other file is named for the argument that it makes.
+pub mod Claim
+pub mod Figures
+pub mod OwnRow
+pub mod TrivialCommutationLaws

@@ -1,0 +1,3 @@
+pub mod Figures
+pub mod Tables
+pub mod TrivialCommutation
