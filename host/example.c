@@ -1,12 +1,28 @@
-/* Quotes a case, and one that the lump sum allowance cuts, commutes two small
- * pensions, files both cases with two others, finds lines again by number and by
- * member, and prints it all: money in pounds and pence, and how many lines were
- * compared to find a member. */
+/* Tells what is wrong with keyed dates, quotes a case, and one that the lump sum
+ * allowance cuts, commutes two small pensions, files both cases with two others,
+ * finds lines again by number and by member, and prints it all: money in pounds
+ * and pence, and how many lines were compared to find a member. */
 #include <inttypes.h>
 #include <stdio.h>
 #include <string.h>
 
 #include "pension.h"
+
+/* Dates as a clerk may key them, and what is wrong with each: nothing; April has 30
+ * days; day and month are both wrong, and the day is told; day and month stand in
+ * each other's place; the year has two digits. */
+static const struct keyed_date {
+    uint32_t day, month, year;
+    enum pension_date_fault fault;
+} keyed_dates[] = {
+    {29, 2, 2024, PENSION_DATE_GOOD},
+    {31, 4, 2024, PENSION_DATE_PAST_MONTH_END},
+    {32, 13, 2024, PENSION_DATE_WRONG_DAY},
+    {4, 15, 2024, PENSION_DATE_WRONG_MONTH},
+    {15, 4, 24, PENSION_DATE_WRONG_YEAR},
+};
+
+enum { KEYED_DATES = sizeof keyed_dates / sizeof keyed_dates[0] };
 
 /* Cases of members 1 to 4. The first is a 1987 pension of £30,000.00 a year, taken
  * at 53 years and 16 days. The last is one of £100,000.00 taken on 6 April 2024, and
@@ -28,6 +44,42 @@ static uint8_t register_bytes[100 * PENSION_LINE_LENGTH];
 static void print_amount(const char *what, uint64_t pence)
 {
     printf("  %-20s %10" PRIu64 ".%02" PRIu64 "\n", what, pence / 100, pence % 100);
+}
+
+/* What to tell the clerk about a date. */
+static const char *fault_in_words(uint32_t fault)
+{
+    switch (fault) {
+    case PENSION_DATE_GOOD:
+        return "a date of the calendar";
+    case PENSION_DATE_WRONG_DAY:
+        return "the day is not 1 to 31";
+    case PENSION_DATE_WRONG_MONTH:
+        return "the month is not 1 to 12";
+    case PENSION_DATE_WRONG_YEAR:
+        return "the year is not 1900 to 2199";
+    case PENSION_DATE_PAST_MONTH_END:
+        return "the month has fewer days";
+    default:
+        return "no such fault";
+    }
+}
+
+/* Prints what is wrong with every keyed date. Gives 0 if a date has another fault
+ * than expected. */
+static int print_keyed_dates(void)
+{
+    int as_expected = 1;
+    printf("keyed dates, day/month/year\n");
+    for (int k = 0; k < KEYED_DATES; k++) {
+        struct keyed_date date = keyed_dates[k];
+        uint32_t fault = pension_date_fault(date.year, date.month, date.day);
+        printf("  %02" PRIu32 "/%02" PRIu32 "/%-4" PRIu32 "  %s\n",
+               date.day, date.month, date.year, fault_in_words(fault));
+        if (fault != date.fault)
+            as_expected = 0;
+    }
+    return as_expected;
 }
 
 /* Quotes a case, prints the figures and gives the total, or 0 if it is refused. */
@@ -115,6 +167,9 @@ static uint32_t find_member(size_t used, uint32_t member)
 
 int main(void)
 {
+    if (!print_keyed_dates())
+        return 1;
+
     if (print_quote(case_lines[0]) == 0)
         return 1;
 

@@ -14,6 +14,12 @@
  * former officer's small pension. It stands beside the quotes: it takes numbers
  * alone, no case line and no register, and the allowance does not limit it.
  *
+ * Keyed dates. pension_date_fault tells the first thing that is wrong with a date,
+ * so that a host can tell the clerk who keyed it before there is a case line. A
+ * case line with a wrong date is refused with PENSION_BAD_DATE whichever fault the
+ * date has, unless PENSION_BAD_CHARACTER or PENSION_BAD_LENGTH, which are lower,
+ * applies too.
+ *
  * What the engine is lent. Every pointer is lent for the length of the call
  * alone; nothing is kept afterwards. Each pointer must have its length in bytes
  * behind it, and may be NULL where that is 0. Buffers of one call must not
@@ -76,6 +82,16 @@ enum pension_refusal {
     PENSION_NO_NUMBER = 13,      /* the last number is FFFFFFFF */
     PENSION_ABSENT = 14,         /* no line has the number, or the member */
     PENSION_NOT_COMMUTABLE = 15  /* the scheme, the age or a pension is outside what trivial commutation takes */
+};
+
+/* The faults of a date, in the order in which they are tested. They are not
+ * refusals, and the same numbers mean other things there. */
+enum pension_date_fault {
+    PENSION_DATE_GOOD = 0,          /* no fault: a date of the calendar */
+    PENSION_DATE_WRONG_DAY = 1,     /* the day is not 1 to 31 */
+    PENSION_DATE_WRONG_MONTH = 2,   /* the month is not 1 to 12 */
+    PENSION_DATE_WRONG_YEAR = 3,    /* the year is not 1900 to 2199 */
+    PENSION_DATE_PAST_MONTH_END = 4 /* the month has fewer days in that year */
 };
 
 /* A quote. The figures of pension k of the case, counted from 0, are at place
@@ -185,6 +201,14 @@ struct pension_found_member pension_find_member(const uint8_t *register_bytes, s
  * Any other value of one of them is refused; none is cut to fewer bits. */
 struct pension_commuted pension_trivial_commutation(uint32_t scheme, uint32_t age,
                                                     uint64_t member_pension, uint64_t survivor_pension);
+
+/* The fault of a date: PENSION_DATE_GOOD for a date of the Gregorian calendar,
+ * 1900 to 2199, or the first that applies in the order of enum
+ * pension_date_fault: the day against 1 to 31, whatever the month, then the month,
+ * then the year, and last the day against the length of that month in that year.
+ * Any three numbers of 32 bits are taken, and none is cut to fewer: day 257 is a
+ * wrong day. This is an answer and not a refusal. */
+uint32_t pension_date_fault(uint32_t year, uint32_t month, uint32_t day);
 
 #ifdef __cplusplus
 }

@@ -1,20 +1,20 @@
 -- Laws of dates: what the crates above cite instead of the definitions' text, and what the calendar's code does instead of
--- their tests. `earlier` is a strict order, and that of one number made of a date; a day is in the calendar by what its month
--- has in every year, or as 29 February; months to the 60th birthday never pass a bound that the age gives, and it is not
--- past while the age is below 720 months. Assumes nothing.
-use mathlib.Core.Path.{_≡_, refl, sym, _∙_, ap}
-use mathlib.Core.Bool.{Bool, true, false, cond, _&&_, _||_, true≢false, false≢true}
+-- their tests. `earlier` is a strict order, and that of one number made of a date; the bounds of a date of the calendar; a month
+-- has the days that it has in every year, or a 29 February; the fault is 0 exactly in the calendar; months to the 60th birthday
+-- never pass a bound that the age gives, and it is not past while the age is below 720 months. Assumes nothing.
+use mathlib.Core.Path.{_≡_, refl, sym, _∙_}
+use mathlib.Core.Bool.{Bool, true, false, cond, _&&_, _||_, or-true, and-false, true≢false, false≢true}
 use mathlib.Core.Logic.{_⊎_, inl, inr, ⊎-elim}
 use Prim.Native.Nat.{ℕ, _+_, _-_, _*_, _≤_, _<_}
 use native.Mathlib.Nat.{sub-zero, le-of-lt, mul-le-mul-right}
 use native.Mathlib.Decide.{decLt}
 use native.Mathlib.Omega.{arith}
 use lib.Dec.{leb, ltb, eqb}
-use borrow.Author.Tests.{ltb-true, eqb-true, leb-true, leb-false, lt-ltb, le-ltb, le-leb, eq-eqb, ne-eqb}
+use borrow.Author.Tests.{ltb-true, eqb-true, leb-true, lt-ltb, le-ltb, le-leb, eq-eqb, ne-eqb}
 use Rattle.calendar.specs.declared.Date.{Date}
 use Rattle.calendar.specs.Tests.{within}
-use Rattle.calendar.proofs.TestsLaws.{and-left, and-right, not-true-false, within-bounds}
-use Rattle.calendar.specs.Calendar.{leap, thirty, monthLength, usualDays, commonDate, beforeBy, earlier, inCalendar, yearIn, monthIn, dayIn, lengthIn, monthIndex, incomplete, months, sixtiethBirthday}
+use Rattle.calendar.proofs.TestsLaws.{and-left, and-right, not-true-false, by-test, within-bounds, lowest-any}
+use Rattle.calendar.specs.Calendar.{date, leap, thirty, monthLength, dayIn, monthIn, yearIn, lengthIn, brokenTests, dateFault, inCalendar, Inside, Outside, OfCalendar, commonDate, beforeBy, earlier, monthIndex, incomplete, months, sixtiethBirthday}
 
 -- what `beforeBy` says
 by-cases : (x y : ℕ) (s : Bool) → beforeBy x y s ≡ true → (x < y) ⊎ ((x ≡ y) × (s ≡ true))
@@ -98,33 +98,39 @@ months-whole : (a b : Date) → a .day ≤ b .day → months a b ≡ monthIndex 
 unfolding months incomplete
 months-whole a b h = simp (le-ltb (b .day) (a .day) h, sub-zero)
 
--- the ranges of a date of the calendar
-pub record InRange (d : Date) : Type 0 where
-  pub first-year : 1900 ≤ d .year
-  pub last-year : d .year ≤ 2199
-  pub first-month : 1 ≤ d .month
-  pub last-month : d .month ≤ 12
-  pub last-of-month : d .day ≤ monthLength (d .year) (d .month)
-  pub first-day : 1 ≤ d .day
-  pub last-day : d .day ≤ 31
+-- a test tells whether a number is in a range
+abbrev Decides : Bool → ℕ → ℕ → ℕ → Type 0
+Decides t low high x = (t ≡ true → Inside low high x) × (t ≡ false → Outside low high x)
 
-pub calendar-range : (d : Date) → inCalendar d ≡ true → InRange d
-unfolding inCalendar yearIn monthIn dayIn lengthIn
+outside : (low high x : ℕ) → within low high x ≡ false → Outside low high x
+outside low high x e i = true≢false (simp (le-leb low x (i .0), le-leb x high (i .1)) at e)
+
+by-bounds : (low high x : ℕ) → Decides (within low high x) low high x
+by-bounds low high x = (within-bounds low high x, outside low high x)
+
+pub day-test : (d : ℕ) → Decides (dayIn d) 1 31 d
+unfolding dayIn
+day-test d = by-bounds 1 31 d
+
+pub month-test : (m : ℕ) → Decides (monthIn m) 1 12 m
+unfolding monthIn
+month-test m = by-bounds 1 12 m
+
+pub year-test : (y : ℕ) → Decides (yearIn y) 1900 2199 y
+unfolding yearIn
+year-test y = by-bounds 1900 2199 y
+
+-- the bounds of a date of the calendar
+pub calendar-range : (d : Date) → inCalendar d ≡ true → OfCalendar (d .year) (d .month) (d .day)
+unfolding inCalendar lengthIn
 calendar-range d h =
-    let rest : (monthIn d && (dayIn d && lengthIn d)) ≡ true = and-right (yearIn d) _ h in
-    let days : (dayIn d && lengthIn d) ≡ true = and-right (monthIn d) _ rest in
-    let y = within-bounds 1900 2199 (d .year) (and-left (yearIn d) _ h) in
-    let m = within-bounds 1 12 (d .month) (and-left (monthIn d) _ rest) in
-    let t = within-bounds 1 31 (d .day) (and-left (dayIn d) _ days) in
-    record {
-      first-year = y .0;
-      last-year = y .1;
-      first-month = m .0;
-      last-month = m .1;
-      first-day = t .0;
-      last-day = t .1;
-      last-of-month = leb-true _ _ (and-right (dayIn d) _ days);
-    }
+    let rest = and-right (yearIn (d .year)) _ h in
+    let days = and-right (monthIn (d .month)) _ rest in (
+      year-test (d .year) .0 (and-left (yearIn (d .year)) _ h),
+      month-test (d .month) .0 (and-left (monthIn (d .month)) _ rest),
+      day-test (d .day) .0 (and-left (dayIn (d .day)) _ days),
+      leb-true _ _ (and-right (dayIn (d .day)) _ days),
+    )
 
 -- every year has the days of 1901, but for 29 February
 abbrev ByYear : ℕ → ℕ → ℕ → Type 0
@@ -132,53 +138,77 @@ ByYear m usual days = (usual ≤ 31) × ((days ≡ usual) ⊎ ((m ≡ 2) × (usu
 
 length-by-year : (y m : ℕ) → ByYear m (monthLength 1901 m) (monthLength y m)
 unfolding monthLength leap
-length-by-year y m = go (eqb m 2) (leap y) (thirty m) refl
+length-by-year y m = go (monthIn m) (eqb m 2) (leap y) (thirty m) refl
   where
-    go : (b l t : Bool) → eqb m 2 ≡ b → ByYear m (cond b 28 (cond t 30 31)) (cond b (cond l 29 28) (cond t 30 31))
-    go false l true e = (omega arith, inl refl)
-    go false l false e = (omega arith, inl refl)
-    go true false t e = (omega arith, inl refl)
-    go true true t e = (omega arith, inr (eqb-true m 2 e, refl, refl))
+    go : (i b l t : Bool) → eqb m 2 ≡ b
+        → ByYear m (cond i (cond b 28 (cond t 30 31)) 0) (cond i (cond b (cond l 29 28) (cond t 30 31)) 0)
+    go false b l t e = (omega arith, inl refl)
+    go true false l true e = (omega arith, inl refl)
+    go true false l false e = (omega arith, inl refl)
+    go true true false t e = (omega arith, inl refl)
+    go true true true t e = (omega arith, inr (eqb-true m 2 e, refl, refl))
 
-usual-month : (m k : ℕ) → 1 ≤ k → k ≤ usualDays m → (within 1 12 m ≡ true) × (k ≤ monthLength 1901 m)
-unfolding usualDays
-usual-month m k low = go (within 1 12 m) refl
+-- a day of a month is one of the 31, and the month one of the twelve
+day-of-month : (m d : ℕ) → 1 ≤ d → d ≤ monthLength 1901 m → dayIn d ≡ true
+unfolding dayIn
+day-of-month m d low high = go (dayIn d) refl
   where
-    go : (b : Bool) → within 1 12 m ≡ b → k ≤ cond b (monthLength 1901 m) 0 → (within 1 12 m ≡ true) × (k ≤ monthLength 1901 m)
-    go true e h = (e, h)
-    go false e h = absurd (omega arith)
+    go : (b : Bool) → dayIn d ≡ b → dayIn d ≡ true
+    go true e = e
+    go false e = absurd (outside _ _ d e (omega (arith, length-by-year 1901 m .0)))
 
--- a date is in the calendar where every year has its day, and by a leap year as 29 February; no other day is
-pub common-in : (d : Date) → commonDate d ≡ true → inCalendar d ≡ true
-unfolding commonDate inCalendar monthIn dayIn lengthIn
-common-in d h =
-    let days = within-bounds 1 (usualDays (d .month)) (d .day) (and-right (yearIn d) _ h) in
-    let month = usual-month (d .month) (d .day) (days .0) (days .1) in
-    let years = length-by-year (d .year) (d .month) in
-    let last : d .day ≤ monthLength (d .year) (d .month) = ⊎-elim (λ e. omega arith) (λ e. omega arith) (years .1) in
-    simp (and-left (yearIn d) _ h, month .0, le-leb 1 (d .day) (days .0), le-leb (d .day) 31 (omega arith), le-leb (d .day) _ last)
+month-of-day : (m d : ℕ) → 1 ≤ d → d ≤ monthLength 1901 m → monthIn m ≡ true
+unfolding monthLength
+month-of-day m d low =
+    by-test (λ (days : ℕ). d ≤ days → monthIn m ≡ true) (monthIn m) _ 0 (λ e h. e) (λ e h. absurd (omega arith))
 
-pub leap-day : (d : Date) → (eqb (d .month) 2 && eqb (d .day) 29) ≡ true → (yearIn d && leap (d .year)) ≡ inCalendar d
-unfolding inCalendar yearIn monthIn dayIn lengthIn monthLength
-leap-day d h =
-    rw (eqb-true (d .month) 2 (and-left (eqb (d .month) 2) _ h), eqb-true (d .day) 29 (and-right (eqb (d .month) 2) _ h))
-    (ap (λ (b : Bool). yearIn d && b) (go (leap (d .year))))
+-- a month has a day that it has in every year, 29 February by a leap year, and no other
+pub usual-day : (y m d : ℕ) → d ≤ monthLength 1901 m → lengthIn y m d ≡ true
+unfolding lengthIn
+usual-day y m d usual = le-leb d _ (⊎-elim (λ e. omega arith) (λ e. omega arith) (length-by-year y m .1))
+
+pub leap-day : (y m d : ℕ) → (eqb m 2 && eqb d 29) ≡ true → leap y ≡ lengthIn y m d
+unfolding monthIn monthLength lengthIn
+leap-day y m d h =
+    rw (eqb-true m 2 (and-left (eqb m 2) _ h), eqb-true d 29 (and-right (eqb m 2) _ h)) (go (leap y))
   where
     go : (b : Bool) → b ≡ leb 29 (cond b 29 28)
     go true = refl
     go false = refl
 
-pub no-day : (d : Date) → commonDate d ≡ false → (eqb (d .month) 2 && eqb (d .day) 29) ≡ false → inCalendar d ≡ false
-unfolding commonDate usualDays inCalendar
-no-day d common leap =
+pub no-day : (y m d : ℕ) → monthLength 1901 m < d → (eqb m 2 && eqb d 29) ≡ false → lengthIn y m d ≡ false
+unfolding lengthIn
+no-day y m d past leap =
     not-true-false _ (λ h.
-    let range = calendar-range d h in
-    let past : monthLength 1901 (d .month) < d .day =
-    leb-false (d .day) _ (simp (and-left (yearIn d) _ h, le-leb 1 (d .month) (range .first-month), le-leb (d .month) 12 (range .last-month), le-leb 1 (d .day) (range .first-day)) at common)
-    in
+    let last = leb-true d _ h in
     ⊎-elim (λ e. omega arith)
-    (λ e. true≢false (simp (eq-eqb (d .month) 2 (e .0), eq-eqb (d .day) 29 (omega arith)) at leap))
-    (length-by-year (d .year) (d .month) .1))
+    (λ e. true≢false (simp (eq-eqb m 2 (e .0), eq-eqb d 29 (omega arith)) at leap))
+    (length-by-year y m .1))
+
+-- a date that every year has is in the calendar
+pub common-in : (d : Date) → commonDate d ≡ true → inCalendar d ≡ true
+unfolding commonDate inCalendar
+common-in d h =
+    let days = within-bounds 1 _ (d .day) (and-right (yearIn (d .year)) _ h) in
+    simp (
+      and-left (yearIn (d .year)) _ h,
+      month-of-day (d .month) (d .day) (days .0) (days .1),
+      day-of-month (d .month) (d .day) (days .0) (days .1),
+      usual-day (d .year) (d .month) (d .day) (days .1),
+    )
+
+-- the fault is 0 exactly for the dates of the calendar
+pub fault-none : (y m d : ℕ) → eqb (dateFault y m d) 0 ≡ inCalendar (date y m d)
+unfolding brokenTests dateFault inCalendar
+fault-none y m d = go (dayIn d) (monthIn m) (yearIn y) (lengthIn y m d) refl refl refl refl
+  where
+    go : (a b c l : Bool) → dayIn d ≡ a → monthIn m ≡ b → yearIn y ≡ c → lengthIn y m d ≡ l
+        → eqb (dateFault y m d) 0 ≡ inCalendar (date y m d)
+    go true true true true p q r s = rw (p, q, r, s)
+    go false b c l p q r s = lowest-any 0 (brokenTests y m d) ∙ simp (p, or-true, and-false)
+    go true false c l p q r s = lowest-any 0 (brokenTests y m d) ∙ simp (q, or-true, and-false)
+    go true true false l p q r s = lowest-any 0 (brokenTests y m d) ∙ simp (r, or-true, and-false)
+    go true true true false p q r s = lowest-any 0 (brokenTests y m d) ∙ simp (s, or-true, and-false)
 
 -- where the age is 660 to 719 months, there are 0 to 60 months to the 60th birthday
 pub months-to-sixtieth : (birth at : Date) → 660 ≤ months birth at → months birth at < 720 → months at (sixtiethBirthday birth) ≤ 60

@@ -1,9 +1,9 @@
 -- Laws of tests: both parts of "and" and of "or", a test of some element of a list by its places, by the next element, by
--- one more at the end, over two lists or by two parts that overlap, a range by its bounds, and what no condition says. Each by
--- cases or by induction on the list. Assumes nothing.
+-- one more at the end, over two lists or by two parts that overlap, a range by its bounds, what no condition says, and when one
+-- does. Each by cases or by induction on the list. Assumes nothing.
 use Prim.Native.Nat.{ℕ, zero, suc, _+_, _-_, _≤_, _<_}
 use mathlib.Core.Path.{_≡_, refl, sym, _∙_, ap}
-use mathlib.Core.Bool.{Bool, true, false, cond, _&&_, _||_, or-true, or-false, or-assoc, true≢false, false≢true}
+use mathlib.Core.Bool.{Bool, true, false, cond, not, _&&_, _||_, or-true, or-false, or-assoc, true≢false, false≢true}
 use mathlib.Core.List.{List, [], _∷_, _++_}
 use native.Mathlib.Numerals.{add-one}
 use native.Mathlib.Omega.{arith}
@@ -133,3 +133,9 @@ pub none-holds : (k : ℕ) (bs : List Bool) → lowest (suc k) bs ≡ 0 → (j :
 none-holds k [] e j = refl
 none-holds k (b ∷ bs) e zero = lowest-none k b bs e .0
 none-holds k (b ∷ bs) e (suc j) = none-holds (suc k) bs (lowest-none k b bs e .1) j
+
+-- and there is a number exactly where one holds
+pub lowest-any : (k : ℕ) (bs : List Bool) → eqb (lowest (suc k) bs) 0 ≡ not (any (λ b. b) bs)
+lowest-any k [] = refl
+lowest-any k (true ∷ bs) = ne-eqb (suc k) 0 (omega arith)
+lowest-any k (false ∷ bs) = lowest-any (suc k) bs

@@ -1,4 +1,5 @@
 pub mod Calendar
 pub mod Figure
+pub mod Figures
 pub mod Sums
 pub mod Tests

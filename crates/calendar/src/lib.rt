@@ -1,7 +1,12 @@
-// Dates: whether they are in the calendar, their order, and the months between them.
+// Dates: whether they are in the calendar and what is wrong with them if not, their order, and the months between them.
 ghost use mathlib.Core.Path.{_≡_};
 ghost use Prim.Native.Nat.{_+_, _*_, _≤_};
-ghost use Rattle.calendar.specs.Calendar.{date, leap, yearIn, usualDays, commonDate, inCalendar, earlier, incomplete, months, sixtiethBirthday};
+ghost use Rattle.calendar.specs.Calendar.{date, leap, monthLength, lengthIn, dateFault, inCalendar, commonDate, earlier, incomplete, months, sixtiethBirthday};
+
+// The years of the calendar.
+const FIRST_YEAR: u32 = 1900;
+
+const LAST_YEAR: u32 = 2199;
 
 // Any three numbers of these widths, as they stand in a case line; in_calendar tells which are dates.
 pub struct Date {
@@ -20,8 +25,8 @@ fn leap_year(year: u32) -> bool
 }
 
 // The days that a month has in every year, so without 29 February, as in 1901; 0 where there is no such month.
-fn days_of(month: u8) -> u8
-    ensures { λ r. ⌜ r ≡ usualDays month ⌝ }
+fn days_of(month: u32) -> u32
+    ensures { λ r. ⌜ r ≡ monthLength 1901 month ⌝ }
 {
     match month {
         1 => 31,
@@ -40,31 +45,58 @@ fn days_of(month: u8) -> u8
     }
 }
 
-// Whether the year of d is one of the calendar.
-fn is_year_in(d: Date) -> bool
-    ensures { λ r. ⌜ r ≡ yearIn d ⌝ }
-{
-    (1900 <= d.year) & (d.year <= 2199)
-}
-
 // Whether d is a date whose day its month has in every year: a date of the calendar, and any of them but a 29 February.
 pub fn is_common_date(d: Date) -> bool
     ensures { λ r. ⌜ r ≡ commonDate d ⌝ }
 {
-    is_year_in(d) & ((1 <= d.day) & (d.day <= days_of(d.month)))
+    let year = d.year as u32;
+    let day = d.day as u32;
+    let year_in = (FIRST_YEAR <= year) & (year <= LAST_YEAR);
+    year_in & ((1 <= day) & (day <= days_of(d.month as u32)))
 }
 
-// Whether d is a date of the calendar. Whether a year is a leap year takes divisions: only 29 February asks.
+// Whether the month of a year has the day. Whether a year is a leap year takes divisions: only 29 February asks.
+fn has_day(year: u32, month: u32, day: u32) -> bool
+    ensures { λ r. ⌜ r ≡ lengthIn year month day ⌝ }
+{
+    if day <= days_of(month) {
+        return true;
+    }
+    if (month == 2) & (day == 29) {
+        return leap_year(year);
+    }
+    false
+}
+
+// Which test of the calendar the date of these numbers, all 32 bits of them, breaks first: 1 the day, 2 the month, 3 the year, 4 the
+// month's own length; 0 for none.
+pub fn date_fault(year: u32, month: u32, day: u32) -> u32
+    ensures { λ r. ⌜ r ≡ dateFault year month day ⌝ }
+{
+    if !((1 <= day) & (day <= 31)) {
+        return 1;
+    }
+    if !((1 <= month) & (month <= 12)) {
+        return 2;
+    }
+    if !((FIRST_YEAR <= year) & (year <= LAST_YEAR)) {
+        return 3;
+    }
+    if !has_day(year, month, day) {
+        return 4;
+    }
+    0
+}
+
+// Whether d is a date of the calendar: one without a fault. Most are dates of every year, which are let in at once: of the tests in
+// their order the compiler makes a jump by the length of the month, which can't be foreseen.
 pub fn in_calendar(d: Date) -> bool
     ensures { λ r. ⌜ r ≡ inCalendar d ⌝ }
 {
     if is_common_date(d) {
         return true;
     }
-    if (d.month == 2) & (d.day == 29) {
-        return is_year_in(d) & leap_year(d.year as u32);
-    }
-    false
+    date_fault(d.year as u32, d.month as u32, d.day as u32) == 0
 }
 
 // A date as one number, in the order of dates.

@@ -1,5 +1,5 @@
-// The C interface: quoting, checking, filing, finding and trivial commutation under their C names, with the same promises. A
-// slice passes as a pointer and a length. host/include/pension.h declares these for C.
+// The C interface: quoting, checking, filing, finding, trivial commutation and the fault of a date under their C names, with the
+// same promises. A slice passes as a pointer and a length. host/include/pension.h declares these for C.
 mod answers;
 
 use answers::PensionChecked;
@@ -16,6 +16,7 @@ use split::answers::Quote;
 use trivial_commutation::YearlyAmount;
 ghost use mathlib.Core.Path.{_≡_};
 ghost use lib.ListN.{length, take, drop};
+ghost use Rattle.calendar.specs.Calendar.{dateFault};
 ghost use Rattle.split.specs.Quote.{quoteOf};
 ghost use Rattle.register.specs.Check.{checkOf};
 ghost use Rattle.register.specs.Find.{hasNumber, hasMember, findLine, locate, locateMember};
@@ -177,4 +178,12 @@ pub extern "C" fn pension_trivial_commutation(
         refusal: commuted.refusal as u32,
         lump: commuted.lump.0 as u64,
     }
+}
+
+// Which test the date of these numbers breaks first, or 0 for none.
+#[no_mangle]
+pub extern "C" fn pension_date_fault(year: u32, month: u32, day: u32) -> u32
+    ensures { λ r. ⌜ r ≡ dateFault year month day ⌝ }
+{
+    calendar::date_fault(year, month, day)
 }

@@ -3,6 +3,7 @@
 use std::ops::Range;
 
 use engine::{Checked, Commuted, Filed, Found, FoundMember, Quote};
+use reference::calendar;
 use reference::money::{LumpPence, YearlyPence};
 use reference::register::{self as book, MemberSearch};
 use reference::Refusal;
@@ -60,6 +61,10 @@ pub fn trivial_commutation(
         Ok(lump) => Commuted { refusal: 0, lump: lump.0 },
         Err(refusal) => Commuted { refusal: number(refusal), lump: 0 },
     }
+}
+
+pub fn date_fault(year: u32, month: u32, day: u32) -> u32 {
+    calendar::date_fault(year, month, day).map_or(0, |fault| u32::from(fault.number()))
 }
 
 fn found(found: Result<Range<usize>, Refusal>) -> Found {

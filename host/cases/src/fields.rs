@@ -52,6 +52,24 @@ impl CaseFields {
         }
         line
     }
+
+    /// Sets one of the four dates that a case has with the pension at a place,
+    /// counted from 0 in the order of the line.
+    pub fn set_date(&mut self, place: usize, field: usize, date: Date) {
+        match field {
+            0 => self.birth = date,
+            1 => self.commencement = date,
+            2 => self.pensions[place].start = date,
+            3 => self.pensions[place].end = date,
+            _ => panic!("no date of a case: {field}"),
+        }
+    }
+
+    /// Every date of the line, in its order.
+    pub fn dates(&self) -> impl Iterator<Item = Date> + '_ {
+        let of_pensions = self.pensions.iter().flat_map(|pension| [pension.start, pension.end]);
+        [self.birth, self.commencement].into_iter().chain(of_pensions)
+    }
 }
 
 impl PensionFields {

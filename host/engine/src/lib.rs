@@ -1,10 +1,10 @@
 //! The retirement quotation engine, called through its C interface.
 //!
 //! Each call takes slices, or numbers alone, and gives the C struct of the same
-//! subject. Under a refusal every figure but `refusal` is 0 (the offset of a
-//! check, and the count of lines compared for an absent member, apart).
-//! [`optional`] holds the calls with slices for a host that lends a null pointer
-//! in place of an empty buffer.
+//! subject, or a number where C has none. Under a refusal every figure but
+//! `refusal` is 0 (the offset of a check, and the count of lines compared for an
+//! absent member, apart). [`optional`] holds the calls with slices for a host that
+//! lends a null pointer in place of an empty buffer.
 
 mod raw;
 
@@ -134,4 +134,13 @@ pub fn trivial_commutation(
 ) -> Commuted {
     // SAFETY: the call takes numbers alone, and the engine tests them itself.
     unsafe { raw::pension_trivial_commutation(scheme, age, member_pension, survivor_pension) }
+}
+
+/// The fault of a date, which may be any three numbers: 0 for a date of the
+/// calendar, or which test it breaks first, 1 for the day against 1 to 31, 2 for
+/// the month, 3 for the year, 4 for the length of the month in that year. It is no
+/// refusal: that for a wrong date in a case line is 3, whichever its fault.
+pub fn date_fault(year: u32, month: u32, day: u32) -> u32 {
+    // SAFETY: the call takes numbers alone, and the engine takes any.
+    unsafe { raw::pension_date_fault(year, month, day) }
 }

@@ -54,4 +54,6 @@ extern "C" {
         member_pension: u64,
         survivor_pension: u64,
     ) -> Commuted;
+
+    pub fn pension_date_fault(year: u32, month: u32, day: u32) -> u32;
 }

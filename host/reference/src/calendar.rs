@@ -1,9 +1,50 @@
-//! Dates and the count of months between them.
+//! Dates, what is wrong with one, and the count of months between two.
 
 use std::ops::RangeInclusive;
 
 /// The years of the calendar.
-pub const YEARS: RangeInclusive<u16> = 1900..=2199;
+pub const YEARS: RangeInclusive<u32> = 1900..=2199;
+/// The months of a year.
+const MONTHS: RangeInclusive<u32> = 1..=12;
+/// The days that some month has.
+const DAYS: RangeInclusive<u32> = 1..=31;
+
+/// Why a date is not in the calendar. The first that applies is given.
+#[derive(Clone, Copy, Debug, PartialEq, Eq, PartialOrd, Ord)]
+#[repr(u8)]
+pub enum DateFault {
+    /// The day is not 1 to 31.
+    Day = 1,
+    /// The month is not 1 to 12.
+    Month = 2,
+    /// The year is not 1900 to 2199.
+    Year = 3,
+    /// The month has fewer days in that year.
+    MonthLength = 4,
+}
+
+impl DateFault {
+    /// The number of the fault in the change requests.
+    pub fn number(self) -> u8 {
+        self as u8
+    }
+}
+
+/// What is wrong with a year, month and day, which may be any numbers, or nothing
+/// if they are a day of the Gregorian calendar, 1900 to 2199.
+pub fn date_fault(year: u32, month: u32, day: u32) -> Option<DateFault> {
+    if !DAYS.contains(&day) {
+        Some(DateFault::Day)
+    } else if !MONTHS.contains(&month) {
+        Some(DateFault::Month)
+    } else if !YEARS.contains(&year) {
+        Some(DateFault::Year)
+    } else {
+        // A month and a year of the calendar fit.
+        let length = days_in_month(year as u16, month as u8);
+        (day > u32::from(length)).then_some(DateFault::MonthLength)
+    }
+}
 
 /// A year, month and day as stated; it need not be in the calendar. Dates
 /// compare in the order of time.
@@ -21,9 +62,7 @@ impl Date {
 
     /// Whether the date is a day of the Gregorian calendar, 1900 to 2199.
     pub fn is_in_calendar(self) -> bool {
-        YEARS.contains(&self.year)
-            && (1..=12).contains(&self.month)
-            && (1..=days_in_month(self.year, self.month)).contains(&self.day)
+        date_fault(self.year.into(), self.month.into(), self.day.into()).is_none()
     }
 
     /// Complete months from this date to a later one: a month is complete on
@@ -85,6 +124,45 @@ mod tests {
         assert!(!Date::new(2000, 0, 1).is_in_calendar());
         assert!(!Date::new(2000, 13, 1).is_in_calendar());
         assert!(!Date::new(2000, 1, 0).is_in_calendar());
+    }
+
+    #[test]
+    fn faults_one_at_a_time() {
+        for (year, month, day, fault) in [
+            (2024, 2, 29, None),
+            (2024, 2, 0, Some(DateFault::Day)),
+            (2024, 2, 32, Some(DateFault::Day)),
+            (2024, 0, 29, Some(DateFault::Month)),
+            (2024, 13, 29, Some(DateFault::Month)),
+            (1899, 3, 29, Some(DateFault::Year)),
+            (2200, 3, 29, Some(DateFault::Year)),
+            (2024, 2, 30, Some(DateFault::MonthLength)),
+            (2023, 2, 29, Some(DateFault::MonthLength)),
+        ] {
+            assert_eq!(date_fault(year, month, day), fault, "{day}.{month}.{year}");
+        }
+    }
+
+    #[test]
+    fn the_first_of_several_faults() {
+        assert_eq!(date_fault(2200, 13, 32), Some(DateFault::Day));
+        assert_eq!(date_fault(2200, 13, 31), Some(DateFault::Month));
+        assert_eq!(date_fault(2200, 2, 31), Some(DateFault::Year));
+        assert_eq!(date_fault(2199, 2, 31), Some(DateFault::MonthLength));
+    }
+
+    #[test]
+    fn numbers_are_not_cut() {
+        assert_eq!(date_fault(2024, 1, 256 + 1), Some(DateFault::Day));
+        assert_eq!(date_fault(2024, 256 + 1, 1), Some(DateFault::Month));
+        assert_eq!(date_fault(65_536 + 2024, 1, 1), Some(DateFault::Year));
+        assert_eq!(date_fault(u32::MAX, u32::MAX, u32::MAX), Some(DateFault::Day));
+    }
+
+    #[test]
+    fn numbers_of_the_faults() {
+        let faults = [DateFault::Day, DateFault::Month, DateFault::Year, DateFault::MonthLength];
+        assert_eq!(faults.map(DateFault::number), [1, 2, 3, 4]);
     }
 
     #[test]

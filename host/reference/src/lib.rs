@@ -1,7 +1,7 @@
 //! Reference implementation of the retirement quotation engine for police
 //! pensions.
 //!
-//! It is written from the rules document, the first three of the change requests
+//! It is written from the rules document, the first four of the change requests
 //! and the tables of the source documents alone and shares no code with the
 //! proved engine, so that the two can be held against each other.
 //!

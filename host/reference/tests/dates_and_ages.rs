@@ -125,7 +125,7 @@ fn calendar_ends_in_every_date() {
         for (case, place) in at_every_place(1) {
             for field in 0..4 {
                 let mut case = case.clone();
-                set_date(&mut case, place, field, Date::new(year, month, day));
+                case.set_date(place, field, Date::new(year, month, day));
                 let quote = assert_quote(&case.line());
                 assert_eq!(quote.refusal == 3, !in_calendar, "{case:?}");
             }
@@ -140,16 +140,6 @@ fn month_ends_in_every_date() {
     let mut random = Generator::for_test("month_ends_in_every_date");
     for _ in 0..200_000 {
         assert_refusal(&month_end_case(&mut random), 0);
-    }
-}
-
-/// Sets one of the four dates that a case has with each pension.
-fn set_date(case: &mut CaseFields, place: usize, field: usize, date: Date) {
-    match field {
-        0 => case.birth = date,
-        1 => case.commencement = date,
-        2 => case.pensions[place].start = date,
-        _ => case.pensions[place].end = date,
     }
 }
 

@@ -18,6 +18,7 @@ static struct pension_found_member (*const find_member)(const uint8_t *, size_t,
                                                         uint32_t) = pension_find_member;
 static struct pension_commuted (*const trivial_commutation)(uint32_t, uint32_t, uint64_t,
                                                             uint64_t) = pension_trivial_commutation;
+static uint32_t (*const date_fault)(uint32_t, uint32_t, uint32_t) = pension_date_fault;
 
 /* Cases of document 01, by member: the example of the program, a kind 2 pension,
  * and kind 1 with kind 3. */
@@ -105,6 +106,11 @@ static void print_constants(void)
     CONSTANT(PENSION_NO_NUMBER);
     CONSTANT(PENSION_ABSENT);
     CONSTANT(PENSION_NOT_COMMUTABLE);
+    CONSTANT(PENSION_DATE_GOOD);
+    CONSTANT(PENSION_DATE_WRONG_DAY);
+    CONSTANT(PENSION_DATE_WRONG_MONTH);
+    CONSTANT(PENSION_DATE_WRONG_YEAR);
+    CONSTANT(PENSION_DATE_PAST_MONTH_END);
 }
 
 static struct pension_quote quote_of(const char *line)
@@ -278,6 +284,37 @@ static void try_trivial_commutation(void)
         EXPECT(refused[k].refusal == PENSION_NOT_COMMUTABLE && refused[k].lump == 0);
 }
 
+/* The ends of the calendar, each fault alone, several at once, and numbers that
+ * would be good in fewer bits. */
+static void try_date_fault(void)
+{
+    static const struct {
+        uint32_t year, month, day;
+        enum pension_date_fault fault;
+    } dates[] = {
+        {1900, 1, 1, PENSION_DATE_GOOD},
+        {2000, 2, 29, PENSION_DATE_GOOD},
+        {2199, 12, 31, PENSION_DATE_GOOD},
+        {2024, 1, 0, PENSION_DATE_WRONG_DAY},
+        {2024, 1, 32, PENSION_DATE_WRONG_DAY},
+        {2024, 0, 1, PENSION_DATE_WRONG_MONTH},
+        {2024, 13, 1, PENSION_DATE_WRONG_MONTH},
+        {1899, 12, 31, PENSION_DATE_WRONG_YEAR},
+        {2200, 1, 1, PENSION_DATE_WRONG_YEAR},
+        {2024, 4, 31, PENSION_DATE_PAST_MONTH_END},
+        {1900, 2, 29, PENSION_DATE_PAST_MONTH_END},
+        {2200, 13, 32, PENSION_DATE_WRONG_DAY},
+        {2200, 13, 31, PENSION_DATE_WRONG_MONTH},
+        {2200, 2, 31, PENSION_DATE_WRONG_YEAR},
+        {2024, 1, 257, PENSION_DATE_WRONG_DAY},
+        {2024, 257, 1, PENSION_DATE_WRONG_MONTH},
+        {65536 + 2024, 1, 1, PENSION_DATE_WRONG_YEAR},
+        {UINT32_MAX, UINT32_MAX, UINT32_MAX, PENSION_DATE_WRONG_DAY},
+    };
+    for (size_t k = 0; k < sizeof dates / sizeof dates[0]; k++)
+        EXPECT(date_fault(dates[k].year, dates[k].month, dates[k].day) == dates[k].fault);
+}
+
 int main(void)
 {
     uint8_t register_bytes[ROOM];
@@ -292,5 +329,6 @@ int main(void)
     try_check(register_bytes);
     try_texts();
     try_trivial_commutation();
+    try_date_fault();
     return failures != 0;
 }

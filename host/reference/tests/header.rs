@@ -9,6 +9,7 @@ use std::path::{Path, PathBuf};
 use std::process::Command;
 
 use engine::{Checked, Commuted, Filed, FiledLines, Found, FoundMember, Quote, MOST_PENSIONS};
+use reference::calendar::DateFault;
 use reference::{case_line, register, Refusal};
 
 /// Every warning is an error.
@@ -74,14 +75,8 @@ fn structs() -> String {
     text
 }
 
-/// The constants, as header.c prints those of the header.
-fn constants() -> String {
-    let lengths = [
-        ("LINE_LENGTH", register::LINE_LENGTH),
-        ("CASE_LENGTH", case_line::MOST_CHARACTERS),
-        ("MOST", MOST_PENSIONS),
-        ("GRANTED", 0),
-    ];
+/// The refusals and their names in the header.
+fn refusals() -> Vec<(&'static str, usize)> {
     let refusals = [
         ("BAD_CHARACTER", Refusal::Character),
         ("BAD_LENGTH", Refusal::Length),
@@ -99,12 +94,32 @@ fn constants() -> String {
         ("ABSENT", Refusal::Absent),
         ("NOT_COMMUTABLE", Refusal::NotCommutable),
     ];
-    let refusals = refusals.map(|(name, refusal)| (name, usize::from(refusal.number())));
-    lengths
-        .iter()
-        .chain(&refusals)
-        .map(|(name, value)| format!("PENSION_{name} {value}\n"))
-        .collect()
+    refusals.map(|(name, refusal)| (name, usize::from(refusal.number()))).to_vec()
+}
+
+/// The faults of a date and their names in the header.
+fn date_faults() -> Vec<(&'static str, usize)> {
+    let faults = [
+        ("DATE_WRONG_DAY", DateFault::Day),
+        ("DATE_WRONG_MONTH", DateFault::Month),
+        ("DATE_WRONG_YEAR", DateFault::Year),
+        ("DATE_PAST_MONTH_END", DateFault::MonthLength),
+    ];
+    faults.map(|(name, fault)| (name, usize::from(fault.number()))).to_vec()
+}
+
+/// The constants, as header.c prints those of the header.
+fn constants() -> String {
+    let mut constants = vec![
+        ("LINE_LENGTH", register::LINE_LENGTH),
+        ("CASE_LENGTH", case_line::MOST_CHARACTERS),
+        ("MOST", MOST_PENSIONS),
+        ("GRANTED", 0),
+    ];
+    constants.extend(refusals());
+    constants.push(("DATE_GOOD", 0));
+    constants.extend(date_faults());
+    constants.iter().map(|(name, value)| format!("PENSION_{name} {value}\n")).collect()
 }
 
 #[test]

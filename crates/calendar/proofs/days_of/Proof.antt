@@ -4,7 +4,7 @@ use mathlib.Core.Path.{_≡_}
 use native.Mathlib.Omega.{arith}
 use Rattle.calendar.specs.Tests.{within}
 use Rattle.calendar.proofs.TestsLaws.{not-true-false, within-bounds}
-use Rattle.calendar.specs.Calendar.{leap, thirty, monthLength, usualDays}
+use Rattle.calendar.specs.Calendar.{monthIn, leap, thirty, monthLength}
 use Rattle.calendar.proofs.days_of.Statement.{statement}
 use Rattle.calendar.proofs.days_of.Tie as tie
 
@@ -18,7 +18,7 @@ none-up-to m zero n low high = omega arith
 none-up-to m (suc k) n low high = none-up-to m k (n .0) low (omega arith)
 
 returns-13 : tie.Need-returns-13
-unfolding usualDays
+unfolding monthIn monthLength
 returns-13 c =
     let m = c .before .args .month in
     rw (not-true-false (within 1 12 m) (λ h.
@@ -26,7 +26,7 @@ returns-13 c =
     none-up-to m 12 (c .match .rest) (bounds .0) (bounds .1)))
 
 pub days-of-spec : {M : Type 1} → statement M
-unfolding leap thirty monthLength usualDays
+unfolding monthIn leap thirty monthLength
 days-of-spec =
     tie.close
     (tie.spec (λ c. rw (c .match .keys1)) (λ c. rw (c .match .keys2)) (λ c. rw (c .match .keys3)) (λ c. rw (c .match .keys4))

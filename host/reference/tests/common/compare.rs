@@ -97,6 +97,14 @@ pub fn assert_trivial_commutation(scheme: u32, age: u32, member: u64, survivor: 
     commuted
 }
 
+/// Tests a date with both and gives the fault they agree on, 0 for none.
+pub fn assert_date_fault(year: u32, month: u32, day: u32) -> u32 {
+    let fault = engine::date_fault(year, month, day);
+    let expected = answers::date_fault(year, month, day);
+    assert_eq!(fault, expected, "year {year}, month {month}, day {day}");
+    fault
+}
+
 /// Files a line with both, starting from the same bytes. Asserts that both
 /// leave the same bytes, and that none but those of a new line is written.
 /// Gives the result and the register afterwards.
