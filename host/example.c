@@ -1,7 +1,8 @@
 /* Tells what is wrong with keyed dates, quotes a case, and one that the lump sum
  * allowance cuts, commutes two small pensions, files both cases with two others,
- * finds lines again by number and by member, and prints it all: money in pounds
- * and pence, and how many lines were compared to find a member. */
+ * with numbers from 1 and with numbers that tell the year, finds lines again by
+ * number and by member, and prints it all: money in pounds and pence, and how many
+ * lines were compared to find a member. */
 #include <inttypes.h>
 #include <stdio.h>
 #include <string.h>
@@ -38,6 +39,10 @@ enum { CASES = sizeof case_lines / sizeof case_lines[0] };
 
 /* What the last case has left of the allowance, in pence. */
 enum { ALLOWANCE_LEFT = 10000000 };
+
+/* The first number that stands for the default, and what the default is for the
+ * first case, which commences in 2023. */
+enum { BY_YEAR = 0, FIRST_OF_2023 = 2023 * 100000 + 1 };
 
 static uint8_t register_bytes[100 * PENSION_LINE_LENGTH];
 
@@ -120,12 +125,14 @@ static struct pension_commuted print_commuted(uint32_t scheme, uint32_t age,
     return commuted;
 }
 
-/* Files every case and gives the used length, or 0 if one is refused. */
-static size_t file_cases(void)
+/* Files every case into an empty register, whose bytes may be any, and gives the
+ * used length, or 0 if one is refused. Only the first filing sets a number: the
+ * others find a register that has lines. */
+static size_t file_cases(uint32_t first_number)
 {
     size_t used = 0;
     for (int k = 0; k < CASES; k++) {
-        struct pension_filed filed = pension_file(register_bytes, sizeof register_bytes, used,
+        struct pension_filed filed = pension_file(register_bytes, sizeof register_bytes, used, first_number,
                                                   (const uint8_t *)case_lines[k], strlen(case_lines[k]));
         if (filed.refusal != PENSION_GRANTED) {
             printf("not filed: refused with %" PRIu32 "\n", filed.refusal);
@@ -183,13 +190,20 @@ int main(void)
         || print_commuted(2015, 59, 100000, 50000).refusal != PENSION_NOT_COMMUTABLE)
         return 1;
 
-    size_t used = file_cases();
-    if (used == 0)
+    /* With numbers from 1. */
+    if (find_number(file_cases(1), CASES) != PENSION_GRANTED)
+        return 1;
+
+    /* With numbers that tell the year. The last case commences in 2024, and its line
+     * goes on from the others. */
+    size_t used = file_cases(BY_YEAR);
+    if (find_number(used, FIRST_OF_2023) != PENSION_GRANTED
+        || find_number(used, FIRST_OF_2023 + CASES - 1) != PENSION_GRANTED
+        || find_number(used, 1) != PENSION_ABSENT)
         return 1;
 
     /* Member 4 has the newest line and member 1 the oldest; 5 has none. */
-    return find_number(used, 1) != PENSION_GRANTED
-        || find_member(used, 4) != PENSION_GRANTED
+    return find_member(used, 4) != PENSION_GRANTED
         || find_member(used, 1) != PENSION_GRANTED
         || find_member(used, 5) != PENSION_ABSENT
         || fflush(stdout) != 0 || ferror(stdout);

@@ -6,7 +6,7 @@
 /* The calls. With another prototype in the header these are errors. */
 struct pension_quote (*const quote)(const uint8_t *, size_t) = pension_quote;
 struct pension_checked (*const check)(const uint8_t *, size_t, size_t) = pension_check;
-size_t (*const file_all)(uint8_t *, size_t, const uint8_t *, size_t, uint8_t *, size_t) = pension_file_all;
+size_t (*const file_all)(uint8_t *, size_t, uint32_t, const uint8_t *, size_t, uint8_t *, size_t) = pension_file_all;
 struct pension_found (*const find_number)(const uint8_t *, size_t, size_t, uint32_t) = pension_find_number;
 struct pension_found_member (*const find_member)(const uint8_t *, size_t, size_t, uint32_t) = pension_find_member;
 

@@ -20,6 +20,15 @@
  * date has, unless PENSION_BAD_CHARACTER or PENSION_BAD_LENGTH, which are lower,
  * applies too.
  *
+ * Quote numbers. In an empty register (used length 0, whatever its bytes) the line
+ * filed gets the first number that the call gives. 0 stands for the default, by
+ * which the numbers tell the year in which the register's first case commences:
+ * that year times 100,000, plus 1. A host whose numbers start at 1 gives 1. A
+ * register that has lines goes on from its last number by one, past the end of a
+ * year's numbers too, and the first number is not looked at, whatever it is; so the
+ * same may be given with every filing. A refused filing sets nothing. FFFFFFFF is a
+ * number too, and the last: the filing after it gets PENSION_NO_NUMBER.
+ *
  * What the engine is lent. Every pointer is lent for the length of the call
  * alone; nothing is kept afterwards. Each pointer must have its length in bytes
  * behind it, and may be NULL where that is 0. Buffers of one call must not
@@ -153,23 +162,28 @@ struct pension_quote pension_quote(const uint8_t *line, size_t line_length);
  * bytes. Refusal 11. A used length of 0 is sound whatever the bytes. */
 struct pension_checked pension_check(const uint8_t *register_bytes, size_t register_length, size_t used);
 
-/* Files a case line: its register line is written behind the used part.
- * Refusals 1 to 13. The whole used part is checked for each accepted case;
- * for many lines use pension_file_lines, which checks it once. */
+/* Files a case line: its register line is written behind the used part, with
+ * `first_number`, or the default for 0, as its number in an empty register and
+ * with the last number plus one in any other. Refusals 1 to 13. The whole used
+ * part is checked for each accepted case; for many lines use pension_file_lines,
+ * which checks it once. */
 struct pension_filed pension_file(uint8_t *register_bytes, size_t register_length, size_t used,
-                                  const uint8_t *line, size_t line_length);
+                                  uint32_t first_number, const uint8_t *line, size_t line_length);
 
-/* Files the lines of a text one after the other, each as pension_file does. A
- * newline (LF) ends a line, and the last line may lack it. refusals[k] is the
- * refusal of line k, counted from 0, as far as there is room; the other bytes of
- * `refusals` stay. */
+/* Files the lines of a text one after the other, each as pension_file does with
+ * the same `first_number`. A newline (LF) ends a line, and the last line may lack
+ * it. refusals[k] is the refusal of line k, counted from 0, as far as there is
+ * room; the other bytes of `refusals` stay. */
 struct pension_filed_lines pension_file_lines(uint8_t *register_bytes, size_t register_length, size_t used,
+                                              uint32_t first_number,
                                               const uint8_t *lines, size_t lines_length,
                                               uint8_t *refusals, size_t refusals_length);
 
-/* The same into an empty register (used length 0, whatever its bytes). Returns
- * the used length. */
+/* The same into an empty register (used length 0, whatever its bytes): the first
+ * line that is granted gets `first_number`, or for 0 the default of its own case,
+ * and the kth granted one that plus k less one. Returns the used length. */
 size_t pension_file_all(uint8_t *register_bytes, size_t register_length,
+                        uint32_t first_number,
                         const uint8_t *lines, size_t lines_length,
                         uint8_t *refusals, size_t refusals_length);
 

@@ -37,9 +37,9 @@ unfoldable pub filedForC : Filed → PensionFiled
 filedForC f = record { refusal = f .refusal; used = f .used }
 
 -- filings of the lines of a text: what `FiledText` says, of the answer as C has it
-abbrev pub FiledTextForC : Register → List ℕ → List ℕ → List ℕ → List ℕ → PensionFiledLines → Type 0
-FiledTextForC r text old after refusals f =
-    FiledText r text old after refusals (record { used = f .used; lines = f .lines })
+abbrev pub FiledTextForC : Register → ℕ → List ℕ → List ℕ → List ℕ → List ℕ → PensionFiledLines → Type 0
+FiledTextForC r first text old after refusals f =
+    FiledText r first text old after refusals (record { used = f .used; lines = f .lines })
 
 -- where a line was found
 unfoldable pub foundForC : Located → PensionFound

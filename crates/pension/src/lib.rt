@@ -83,38 +83,49 @@ fn filed_for_c(filed: Filed) -> PensionFiled
     }
 }
 
-// Files a case line.
+// Files a case line; in an empty register it gets the first number, where 0 stands for the default.
 #[no_mangle]
-pub extern "C" fn pension_file(register: &mut [u8], used: usize, line: &[u8]) -> PensionFiled
-    ensures { λ r. ⌜ (r ≡ filedForC (fileStep (lent (now (register .entry)) used) (filing (now (line .entry))) .answer)) × (now (register .exit) ≡ fileStep (lent (now (register .entry)) used) (filing (now (line .entry))) .state .bytes) ⌝ }
+pub extern "C" fn pension_file(
+    register: &mut [u8],
+    used: usize,
+    first_number: u32,
+    line: &[u8],
+) -> PensionFiled
+    ensures { λ r. ⌜ (r ≡ filedForC (fileStep (lent (now (register .entry)) used) (filing «first_number» (now (line .entry))) .answer)) × (now (register .exit) ≡ fileStep (lent (now (register .entry)) used) (filing «first_number» (now (line .entry))) .state .bytes) ⌝ }
 {
-    let filed = register::file(register, used, line);
+    let filed = register::file(register, used, first_number, line);
     filed_for_c(filed)
 }
 
-// Files the lines of a text.
+// Files the lines of a text, each with the same first number.
 #[no_mangle]
 pub extern "C" fn pension_file_lines(
     register: &mut [u8],
     used: usize,
+    first_number: u32,
     lines: &[u8],
     refusals: &mut [u8],
 ) -> PensionFiledLines
-    ensures { λ r. ⌜ FiledTextForC (lent (now (register .entry)) used) (now (lines .entry)) (now (refusals .entry)) (now (register .exit)) (now (refusals .exit)) r ⌝ }
+    ensures { λ r. ⌜ FiledTextForC (lent (now (register .entry)) used) «first_number» (now (lines .entry)) (now (refusals .entry)) (now (register .exit)) (now (refusals .exit)) r ⌝ }
 {
-    let filed = register::file_lines(register, used, lines, refusals);
+    let filed = register::file_lines(register, used, first_number, lines, refusals);
     PensionFiledLines {
         used: filed.used,
         lines: filed.lines,
     }
 }
 
-// Files every line of a text into an empty register.
+// Files every line of a text into an empty register, each with the same first number.
 #[no_mangle]
-pub extern "C" fn pension_file_all(register: &mut [u8], lines: &[u8], refusals: &mut [u8]) -> usize
-    ensures { λ r. ⌜ FiledAll (now (register .entry)) (now (lines .entry)) (now (refusals .entry)) (now (register .exit)) (now (refusals .exit)) r ⌝ }
+pub extern "C" fn pension_file_all(
+    register: &mut [u8],
+    first_number: u32,
+    lines: &[u8],
+    refusals: &mut [u8],
+) -> usize
+    ensures { λ r. ⌜ FiledAll (now (register .entry)) «first_number» (now (lines .entry)) (now (refusals .entry)) (now (register .exit)) (now (refusals .exit)) r ⌝ }
 {
-    register::file_all(register, lines, refusals)
+    register::file_all(register, first_number, lines, refusals)
 }
 
 fn found_for_c(located: Located) -> PensionFound

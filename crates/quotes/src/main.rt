@@ -1,5 +1,5 @@
-// Files the case lines of standard input in a register of 65,536 bytes that starts empty, and prints each filed line, or
-// R and the refusal as two decimal digits.
+// Files the case lines of standard input in a register of 65,536 bytes that starts empty, with numbers from 1 on, and prints each
+// filed line, or R and the refusal as two decimal digits.
 use libc::STDIN_FILENO;
 use libc::STDOUT_FILENO;
 use register::LINE_LENGTH;
@@ -16,6 +16,9 @@ const KEPT: usize = LONGEST + 1;
 // The bytes of a block of input, and the refusals that it has room for, one a line. The register is checked once a block, so a
 // larger block spends less on checks.
 const INPUT_LENGTH: usize = 262144;
+
+// The number of the first filed line.
+const FIRST_NUMBER: u32 = 1;
 
 // A zero for each byte of a block.
 fn block_buffer() -> [u8; INPUT_LENGTH]
@@ -133,7 +136,7 @@ fn file_text(
     }
     let mut next = progress;
     let from = next.used;
-    let filed = register::file_lines(register, from, text, refusals);
+    let filed = register::file_lines(register, from, FIRST_NUMBER, text, refusals);
     next.used = filed.used;
     let lines = filed.lines;
     if refusals.len() < lines {

@@ -1,27 +1,38 @@
 -- Demands 2 and 3 over the definitions. The list claim: what the ledger keeps, of the register that shows it from the start. A
 -- filed line is found: in any register that took it, later filings only add lines behind it, and numbers rise, so no other
--- has its number. Assumes nothing.
-use Prim.Native.Nat.{ℕ, _+_, _<_}
+-- has its number. And 13 comes where the last number is FFFFFFFF, and only there. Assumes nothing.
+use Prim.Native.Nat.{ℕ, _+_, _≤_, _<_}
+use mathlib.Core.Bool.{false, not}
 use mathlib.Core.List.{List, [], _∷_, _++_, append-assoc, append-nil}
 use mathlib.Core.Path.{_≡_, refl, sym, _∙_, ap, subst}
+use native.Mathlib.Decide.{decLt}
 use native.Mathlib.Omega.{arith}
-use lib.ListN.{length, getD, length-append, List·getD-append}
+use lib.Dec.{eqb}
+use lib.ListN.{length, getD, length-append}
 use lib.Seq.{getD-at}
-use borrow.Author.Tests.{eq-eqb, ne-eqb}
+use borrow.Author.Tests.{eq-eqb, ne-eqb, lt-leb, le-leb, not-false}
+use Rattle.calendar.specs.Calendar.{inCalendar}
+use Rattle.calendar.specs.Tests.{any}
+use Rattle.calendar.proofs.TestsLaws.{or-left, or-right, none-holds}
+use Rattle.calendar.proofs.CalendarLaws.{calendar-range}
+use Rattle.split.specs.Case.{headOf, pensionsOf}
+use Rattle.split.specs.Refusal.{lineConditions, undatedHead, undated, conditionsWith, conditions, refusalOf}
+use Rattle.split.proofs.FrameLaws.{number-below}
 use Rattle.register.specs.declared.answers.Checked.{Checked}
 use Rattle.register.specs.declared.answers.Filed.{Filed}
-use Rattle.register.specs.Line.{figuresIn, lineFor, numberIn}
+use Rattle.register.specs.Line.{figureWidth, numberPlace, figuresIn, lineFor, numberIn}
 use Rattle.register.specs.Layout.{Register, lent, lineLayout, usedLines}
+use Rattle.register.specs.Check.{following}
 use Rattle.register.specs.Steps.{Step, runs}
 use Rattle.register.specs.Find.{findRefusal, findLine, hasNumber}
-use Rattle.register.specs.File.{Filing, numberGiven, fileRefusal, fileStep, fileRun, FiledFound}
+use Rattle.register.specs.File.{Filing, numberSet, numberGiven, lastTaken, fileRefusal, fileStep, fileRun, FiledFound}
 use Rattle.register.specs.Ledger.{Ledger, emptyLedger, ledgerAfter, ledgerStep, ledgerRun, ListClaim}
 use Rattle.register.proofs.LineLaws.{number-back, figures-back}
 use Rattle.register.proofs.CheckLaws.{number-inside, sound-number}
 use Rattle.register.proofs.FindLaws.{found-at}
-use Rattle.register.proofs.FileLaws.{given-low}
+use Rattle.register.proofs.FileLaws.{given-first, given-behind}
 use Rattle.register.proofs.StepsLaws.{runs-keep}
-use Rattle.register.proofs.LedgerLaws.{entered-by, entered-only, ledger-granted, Held, held-empty, held-after, Booked, booked-empty, booked-after}
+use Rattle.register.proofs.LedgerLaws.{entered-by, entered-only, ledger-granted, Held, held-empty, held-after, firstSet, set-claim, Booked, booked-empty, booked-after}
 use Rattle.register.proofs.Shown.{shown, shown-lines, file-sound, shown-check, shown-refusal, shown-step, shown-run, ownLedger, own-shown, own-held}
 
 -- the ledger of a list keeps its lines whole and sound, and they are the granted filings'
@@ -42,6 +53,8 @@ list-claim s fs =
       answered = ap (λ (x : Step (List Filed) Register). x .answer) ran;
       bytes = ap (λ (x : Step (List Filed) Register). x .state .bytes) ran;
       length-used = ap (λ (x : Step (List Filed) Register). x .state .used) ran;
+      first = firstSet (ledgerRun (length s) fs .state .granted);
+      first-set = set-claim (ledgerRun (length s) fs .state .granted);
       count = booked .count;
       lines = booked .lines;
     }
@@ -55,7 +68,7 @@ begins-after : (buffer : ℕ) (ls : List (List ℕ)) (b : Ledger) (f : Filing) �
 begins-after buffer ls b f begins =
     entered-by (Begins ls) buffer b f (λ refused. begins)
     (λ none. record {
-      more = begins .more ++ (lineFor (numberGiven (b .lines)) (f .line) ∷ []);
+      more = begins .more ++ (lineFor (numberGiven (b .lines) f) (f .line) ∷ []);
       lines = rw (begins .lines) (append-assoc ls (begins .more) _);
     })
 
@@ -80,13 +93,13 @@ shown-found g b k held h =
 
 -- of a register that shows a ledger
 shown-filed : (g : List ℕ) (b : Ledger) (f : Filing) (fs : List Filing) → Held (length g) b → fileRefusal (shown g b) f ≡ 0
-    → FiledFound (numberGiven (usedLines (shown g b))) f (fileRun (fileStep (shown g b) f .state) fs .state)
+    → FiledFound (numberGiven (usedLines (shown g b)) f) f (fileRun (fileStep (shown g b) f .state) fs .state)
 unfolding ledgerStep
 shown-filed g b f fs held none =
     let given = sym (shown-refusal g b held f) ∙ none in
-    let n = numberGiven (b .lines) in
+    let n = numberGiven (b .lines) f in
     let l = lineFor n (f .line) in
-    let low = given-low (b .lines) (ledger-granted (length g) b f given .free) in
+    let low = ledger-granted (length g) b f given .free in
     let after = runs (ledgerStep (length g)) (ledgerAfter (length g) b f) fs .state in
     let held′ = held-after (length g) b f held in
     let ran : fileRun (fileStep (shown g b) f .state) fs .state ≡ shown g after =
@@ -113,8 +126,39 @@ shown-filed g b f fs held none =
 
 -- demand 2: a filed line, found by its number after any later filings, is that line, in every register that took it
 pub filed-found : (r : Register) (f : Filing) (fs : List Filing) → fileRefusal r f ≡ 0
-    → FiledFound (numberGiven (usedLines r)) f (fileRun (fileStep r f .state) fs .state)
+    → FiledFound (numberGiven (usedLines r) f) f (fileRun (fileStep r f .state) fs .state)
 filed-found r f fs none =
     let sound = file-sound r f none in
-    subst (λ (x : Register). FiledFound (numberGiven (usedLines x)) f (fileRun (fileStep x f .state) fs .state)) (own-shown r sound)
+    subst (λ (x : Register). FiledFound (numberGiven (usedLines x) f) f (fileRun (fileStep x f .state) fs .state)) (own-shown r sound)
     (shown-filed (r .bytes) (ownLedger r) f fs (own-held r sound) (rw (own-shown r sound) none))
+
+-- demand 2, of 13: behind a line exactly where its number is FFFFFFFF
+pub thirteen-last : (ls : List (List ℕ)) (l : List ℕ) (f : Filing) → lastTaken (ls ++ (l ∷ [])) f ≡ eqb (numberIn l) 4294967295
+unfolding following numberIn
+thirteen-last ls l f =
+    let low = number-below l numberPlace figureWidth in
+    rw (given-behind ls l f)
+    (elim (decLt (numberIn l) 4294967295) [
+      | yes below ↦ simp (lt-leb 4294967296 (numberIn l + 1) (omega arith), ne-eqb (numberIn l) 4294967295 (omega arith))
+      | no last ↦ simp (le-leb 4294967296 (numberIn l + 1) (omega arith), eq-eqb (numberIn l) 4294967295 (omega (arith, low)))
+    ])
+
+-- and never in an empty register: no accepted case commences after 2199
+accepted-year : (c : List ℕ) → refusalOf c ≡ 0 → headOf c .commencement .year ≤ 2199
+unfolding refusalOf conditionsWith undatedHead
+accepted-year c none =
+    let h = headOf c in
+    let ps = pensionsOf c in
+    let head = or-left (undatedHead h) (any undated ps) (none-holds 0 (lineConditions c ++ conditions h ps) none 2) in
+    let dated = or-right (not (inCalendar (h .birth))) (not (inCalendar (h .commencement))) head in
+    calendar-range (h .commencement) (not-false (inCalendar (h .commencement)) dated) .0 .1
+
+pub thirteen-empty : (f : Filing) → refusalOf (f .line) ≡ 0 → f .first < 4294967296 → lastTaken [] f ≡ false
+unfolding numberSet
+thirteen-empty f accepted four =
+    rw (given-first f)
+    (lt-leb 4294967296 (numberSet f)
+    (elim (decLt 0 (f .first)) [
+      | yes some ↦ simp (ne-eqb (f .first) 0 (omega arith)) (omega arith)
+      | no none ↦ simp (eq-eqb (f .first) 0 (omega arith)) (omega (arith, accepted-year (f .line) accepted))
+    ]))

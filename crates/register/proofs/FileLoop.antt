@@ -5,7 +5,7 @@ use mathlib.Core.Bool.{false, cond}
 use mathlib.Core.List.{List, [], _∷_, _++_, map, map-append, append-nil, append-assoc}
 use mathlib.Core.Path.{_≡_, refl, sym, _∙_, ap}
 use native.Mathlib.Omega.{arith}
-use lib.Dec.{eqb, leb, ltb}
+use lib.Dec.{leb, ltb}
 use lib.ListN.{length, take, drop, length-append}
 use lib.Seq.{drop-drop}
 use borrow.Author.Tests.{ne-eqb, lt-ltb, le-ltb, le-leb, lt-leb}
@@ -20,13 +20,12 @@ use Rattle.register.specs.Line.{shareCount, figuresOf, figuresFor, lineT
 use Rattle.register.specs.Layout.{Register, lent, lineLength, usedLines}
 use Rattle.register.specs.Check.{following, checkOf}
 use Rattle.register.specs.Steps.{runs}
-use Rattle.register.specs.File.{Filing, filing, firstNumber, numberGiven, refusalGiven, fileRefusal, filedAnswer, textFiled, over, grown, fileStep, fileRun}
+use Rattle.register.specs.File.{Filing, filing, numberFrom, numberGiven, refusalGiven, fileRefusal, filedAnswer, textFiled, over, grown, fileStep, fileRun}
 use Rattle.register.specs.Text.{textLines, textFilings, refusalBytes, FiledText, FiledAll}
 use Rattle.register.specs.Scan.{ScannedAs, Known, LineEnd}
 use Rattle.register.proofs.LineLaws.{line-length}
 use Rattle.register.proofs.StepsLaws.{runs-answer, runs-state, runs-count}
-use Rattle.register.proofs.CheckLaws.{after-low}
-use Rattle.register.proofs.FileLaws.{answer-granted, answer-refused, answer-refusal, text-granted, text-refused, grown-none}
+use Rattle.register.proofs.FileLaws.{refusal-none, answer-granted, answer-refused, answer-refusal, text-granted, text-refused, grown-none}
 use Rattle.register.proofs.TextLaws.{line-cut, lines-none, refusals-size}
 use Rattle.register.proofs.Shown.{file-sound, step-sound}
 use Rattle.register.proofs.Demands.{list-claim}
@@ -66,12 +65,12 @@ module _ (r : Register) (f : Filing) where
   -- with none the line is written behind the used part
   step-granted : fileRefusal r f ≡ 0
       → Filed-as r f (record { refusal = 0; used = r .used + lineLength })
-      (take (r .used) (r .bytes) ++ (lineFor (numberGiven (usedLines r)) (f .line) ++ drop (r .used + lineLength) (r .bytes)))
+      (take (r .used) (r .bytes) ++ (lineFor (numberGiven (usedLines r) f) (f .line) ++ drop (r .used + lineLength) (r .bytes)))
   unfolding fileStep
   step-granted none =
-      let l = lineFor (numberGiven (usedLines r)) (f .line) in
+      let l = lineFor (numberGiven (usedLines r) f) (f .line) in
       let text = text-granted r f none in
-      let long = line-length (numberGiven (usedLines r)) (f .line) in (
+      let long = line-length (numberGiven (usedLines r) f) (f .line) in (
         ap (λ (n : ℕ). record { refusal = 0; used = r .used + n }) (sym (ap length text ∙ long))
             ∙ sym (ap (λ (n : ℕ). filedAnswer n (grown r (textFiled r f) .used)) none ∙ answer-granted 0 _ refl),
         ap (λ (n : ℕ). take (r .used) (r .bytes) ++ (l ++ drop (r .used + n) (r .bytes))) (sym long)
@@ -85,8 +84,8 @@ module _ (r : Register) (f : Filing) where
         step-refused 11 (simp (accepted, ne-eqb (checkOf r .refusal) 0 (λ z. bad (known .checked ∙ z)))) (λ e. omega arith)
 
     module _ (sound : k .refusal ≡ 0) where
-      by-state : fileRefusal r f ≡ cond (ltb (length (r .bytes) - r .used) lineLength) 12 (cond (leb 4294967296 (k .next)) 13 0)
-      unfolding fileRefusal refusalGiven
+      by-state : fileRefusal r f ≡ cond (ltb (length (r .bytes) - r .used) lineLength) 12 (cond (leb 4294967296 (numberFrom (k .next) f)) 13 0)
+      unfolding fileRefusal refusalGiven numberGiven
       by-state = simp (accepted, sym (known .checked) ∙ sound, known .numbered sound)
 
       pub space-refused : length (r .bytes) - r .used < lineLength → Filed-as r f (record { refusal = 12; used = 0 }) (r .bytes)
@@ -97,17 +96,19 @@ module _ (r : Register) (f : Filing) where
         room : ltb (length (r .bytes) - r .used) lineLength ≡ false
         room = le-ltb (length (r .bytes) - r .used) lineLength space
 
-        pub last-refused : 4294967296 ≤ k .next → Filed-as r f (record { refusal = 13; used = 0 }) (r .bytes)
-        last-refused h = step-refused 13 (by-state ∙ simp (room, le-leb 4294967296 (k .next) h)) (λ e. omega arith)
+        pub last-refused : (number : ℕ) → number ≡ numberFrom (k .next) f → 4294967296 ≤ number
+            → Filed-as r f (record { refusal = 13; used = 0 }) (r .bytes)
+        last-refused number given h =
+            step-refused 13 (by-state ∙ simp (room, ← given, le-leb 4294967296 number h)) (λ e. omega arith)
 
         -- the part behind the used length is written as the line
-        pub line-filed : k .next < 4294967296 → (number : ℕ) (q : Quote) (line : List ℕ)
-            → number ≡ cond (eqb (k .next) 0) firstNumber (k .next) → q ≡ quoteOf (f .line) → line ≡ lineText (figuresOf number q)
+        pub line-filed : (number : ℕ) (q : Quote) (line : List ℕ) → number ≡ numberFrom (k .next) f → number < 4294967296
+            → q ≡ quoteOf (f .line) → line ≡ lineText (figuresOf number q)
             → Filed-as r f (record { refusal = 0; used = r .used + lineLength })
             (take (r .used) (r .bytes) ++ (line ++ drop (r .used + lineLength - r .used) (drop (r .used) (r .bytes))))
         unfolding numberGiven lineFor figuresFor
-        line-filed h number q line given quoted written =
-            let granted = step-granted (by-state ∙ simp (room, lt-leb 4294967296 (k .next) h)) in
+        line-filed number q line given h quoted written =
+            let granted = step-granted (by-state ∙ simp (room, ← given, lt-leb 4294967296 number h)) in
             let past : r .used + (r .used + lineLength - r .used) ≡ r .used + lineLength = omega arith in
             (granted .0, simp (drop-drop, past, written, quoted, given, known .numbered sound) (granted .1))
 
@@ -117,13 +118,14 @@ module _ (r : Register) (f : Filing) (k : Scanned) (known : Known r k) (a : File
   unfolding fileStep
   said = ap (λ (x : Filed). x .refusal) answered ∙ answer-refusal (fileRefusal r f) _
 
-  pub granted-low : a .refusal ≡ 0 → k .next < 8589934592
+  pub granted-low : a .refusal ≡ 0 → numberFrom (k .next) f < 4294967296
+  unfolding fileRefusal numberGiven
   granted-low h =
-      let sound = known .checked ∙ file-sound r f (sym said ∙ h) in
-      rw (known .numbered sound) (after-low 0 (usedLines r) (omega arith))
+      let none : fileRefusal r f ≡ 0 = sym said ∙ h in
+      rw (known .numbered (known .checked ∙ file-sound r f none)) (refusal-none f _ (length (r .bytes)) (r .used) (usedLines r) none .free)
 
   pub granted-next : (used : ℕ) (k′ : Scanned) → a .refusal ≡ 0 → used ≡ a .used → k′ .refusal ≡ k .refusal
-      → k′ .next ≡ following (cond (eqb (k .next) 0) firstNumber (k .next)) → (used ≡ fileStep r f .state .used) × Known (fileStep r f .state) k′
+      → k′ .next ≡ following (numberFrom (k .next) f) → (used ≡ fileStep r f .state .used) × Known (fileStep r f .state) k′
   unfolding fileStep numberGiven
   granted-next used k′ h moved same more =
       let none : fileRefusal r f ≡ 0 = sym said ∙ h in
@@ -132,7 +134,7 @@ module _ (r : Register) (f : Filing) (k : Scanned) (known : Known r k) (a : File
         moved ∙ ap (λ (x : Filed). x .used) (answered ∙ answer-granted (fileRefusal r f) _ none),
         record {
           checked = same ∙ sound ∙ sym (after .checked);
-          numbered = λ _. more ∙ ap (λ (n : ℕ). following (cond (eqb n 0) firstNumber n)) (known .numbered sound) ∙ sym (after .next);
+          numbered = λ _. more ∙ ap (λ (n : ℕ). following (numberFrom n f)) (known .numbered sound) ∙ sym (after .next);
         },
       )
 
@@ -143,39 +145,39 @@ module _ (r : Register) (f : Filing) (k : Scanned) (known : Known r k) (a : File
       rw (state, same) (stays, known)
 
 -- What filing the lines of a text keeps: the lines passed are filed, and what is known of the register is known of what they left.
-pub record Passed (r₀ : Register) (text old bytes refusals : List ℕ) (k : Scanned) (used n at : ℕ) : Type 0 where
+pub record Passed (r₀ : Register) (first : ℕ) (text old bytes refusals : List ℕ) (k : Scanned) (used n at : ℕ) : Type 0 where
   pub done : List (List ℕ)
   pub lines : textLines text ≡ done ++ textLines (drop at text)
-  pub state : lent bytes used ≡ fileRun r₀ (map filing done) .state
+  pub state : lent bytes used ≡ fileRun r₀ (map (filing first) done) .state
   pub known : Known (lent bytes used) k
-  pub given : refusals ≡ refusalBytes (fileRun r₀ (map filing done) .answer) old
-  pub count : n ≡ length (fileRun r₀ (map filing done) .answer)
+  pub given : refusals ≡ refusalBytes (fileRun r₀ (map (filing first) done) .answer) old
+  pub count : n ≡ length (fileRun r₀ (map (filing first) done) .answer)
 
-pub passed-none : (r : Register) (text old : List ℕ) (k : Scanned) → Known r k → Passed r text old (r .bytes) old k (r .used) 0 0
+pub passed-none : (r : Register) (first : ℕ) (text old : List ℕ) (k : Scanned) → Known r k → Passed r first text old (r .bytes) old k (r .used) 0 0
 unfolding runs refusalBytes
-passed-none r text old k known =
+passed-none r first text old k known =
     record { done = []; lines = refl; state = refl; known = known; given = refl; count = refl }
 
-map-count : (ls : List (List ℕ)) → length (map filing ls) ≡ length ls
-map-count [] = refl
-map-count (l ∷ ls) = ap suc (map-count ls)
+map-count : (first : ℕ) (ls : List (List ℕ)) → length (map (filing first) ls) ≡ length ls
+map-count first [] = refl
+map-count first (l ∷ ls) = ap suc (map-count first ls)
 
-module _ {r₀ : Register} {text old bytes refusals : List ℕ} {k : Scanned} {used n at : ℕ}
-    (p : Passed r₀ text old bytes refusals k used n at) where
+module _ {r₀ : Register} {first : ℕ} {text old bytes refusals : List ℕ} {k : Scanned} {used n at : ℕ}
+    (p : Passed r₀ first text old bytes refusals k used n at) where
   pub passed-size : length refusals ≡ length old
-  passed-size = refusals-size (fileRun r₀ (map filing (p .done)) .answer) old refusals (p .given)
+  passed-size = refusals-size (fileRun r₀ (map (filing first) (p .done)) .answer) old refusals (p .given)
 
-  pub passed-all : length text ≤ at → FiledText r₀ text old bytes refusals (record { used = used; lines = n })
+  pub passed-all : length text ≤ at → FiledText r₀ first text old bytes refusals (record { used = used; lines = n })
   passed-all h =
       let all : textLines text ≡ p .done =
       p .lines ∙ ap (λ (ls : List (List ℕ)). p .done ++ ls) (lines-none text at h) ∙ append-nil (p .done)
       in
       let counted : n ≡ length (textLines text) =
-      p .count ∙ runs-count fileStep r₀ (map filing (p .done)) ∙ map-count (p .done) ∙ ap length (sym all)
+      p .count ∙ runs-count fileStep r₀ (map (filing first) (p .done)) ∙ map-count first (p .done) ∙ ap length (sym all)
       in record {
         answered =
             λ i. record {
-              used = (ap (λ (x : Register). x .used) (p .state) ∙ ap (λ (ls : List (List ℕ)). fileRun r₀ (map filing ls) .state .used) (sym all)) i;
+              used = (ap (λ (x : Register). x .used) (p .state) ∙ ap (λ (ls : List (List ℕ)). fileRun r₀ (map (filing first) ls) .state .used) (sym all)) i;
               lines = counted i;
             };
         bytes = rw all (ap (λ (x : Register). x .bytes) (p .state));
@@ -188,39 +190,39 @@ module _ {r₀ : Register} {text old bytes refusals : List ℕ} {k : Scanned} {u
 
     -- the line from here to its end is filed
     pub passed-next : (bytes′ refusals′ : List ℕ) (k′ : Scanned) (used′ n′ : ℕ)
-        → bytes′ ≡ fileStep (lent bytes used) (filing line) .state .bytes
-        → (used′ ≡ fileStep (lent bytes used) (filing line) .state .used) × Known (fileStep (lent bytes used) (filing line) .state) k′
-        → refusals′ ≡ refusalBytes (fileRun r₀ (map filing (p .done)) .answer ++ (fileStep (lent bytes used) (filing line) .answer ∷ [])) old
-        → n′ ≡ n + 1 → Passed r₀ text old bytes′ refusals′ k′ used′ n′ (end + 1)
+        → bytes′ ≡ fileStep (lent bytes used) (filing first line) .state .bytes
+        → (used′ ≡ fileStep (lent bytes used) (filing first line) .state .used) × Known (fileStep (lent bytes used) (filing first line) .state) k′
+        → refusals′ ≡ refusalBytes (fileRun r₀ (map (filing first) (p .done)) .answer ++ (fileStep (lent bytes used) (filing first line) .answer ∷ [])) old
+        → n′ ≡ n + 1 → Passed r₀ first text old bytes′ refusals′ k′ used′ n′ (end + 1)
     passed-next bytes′ refusals′ k′ used′ n′ written left answered more =
-        let fs = map filing (p .done) in
-        let on : map filing (p .done ++ (line ∷ [])) ≡ fs ++ (filing line ∷ []) = map-append filing (p .done) (line ∷ []) in
-        let here : lent bytes′ used′ ≡ fileStep (lent bytes used) (filing line) .state =
+        let fs = map (filing first) (p .done) in
+        let on : map (filing first) (p .done ++ (line ∷ [])) ≡ fs ++ (filing first line ∷ []) = map-append (filing first) (p .done) (line ∷ []) in
+        let here : lent bytes′ used′ ≡ fileStep (lent bytes used) (filing first line) .state =
         λ i. record { bytes = written i; used = left .0 i }
         in
-        let answers : fileRun r₀ (map filing (p .done ++ (line ∷ []))) .answer
-        ≡ fileRun r₀ fs .answer ++ (fileStep (lent bytes used) (filing line) .answer ∷ []) =
-        ap (λ (es : List Filing). fileRun r₀ es .answer) on ∙ runs-answer fileStep r₀ fs (filing line)
-        ∙ ap (λ (x : Register). fileRun r₀ fs .answer ++ (fileStep x (filing line) .answer ∷ [])) (sym (p .state))
+        let answers : fileRun r₀ (map (filing first) (p .done ++ (line ∷ []))) .answer
+        ≡ fileRun r₀ fs .answer ++ (fileStep (lent bytes used) (filing first line) .answer ∷ []) =
+        ap (λ (es : List Filing). fileRun r₀ es .answer) on ∙ runs-answer fileStep r₀ fs (filing first line)
+        ∙ ap (λ (x : Register). fileRun r₀ fs .answer ++ (fileStep x (filing first line) .answer ∷ [])) (sym (p .state))
         in record {
           done = p .done ++ (line ∷ []);
           lines =
               p .lines ∙ rw (line-cut text at end h found)
               (sym (append-assoc (p .done) (line ∷ []) (textLines (drop (end + 1) text))));
           state =
-              here ∙ ap (λ (x : Register). fileStep x (filing line) .state) (p .state)
-              ∙ sym (ap (λ (es : List Filing). fileRun r₀ es .state) on ∙ runs-state fileStep r₀ fs (filing line));
+              here ∙ ap (λ (x : Register). fileStep x (filing first line) .state) (p .state)
+              ∙ sym (ap (λ (es : List Filing). fileRun r₀ es .state) on ∙ runs-state fileStep r₀ fs (filing first line));
           known = rw here (left .1);
           given = answered ∙ ap (λ (l : List Filed). refusalBytes l old) (sym answers);
           count = more ∙ rw answers (simp length-append (omega (arith, p .count)));
         }
 
 -- a register filled from nothing keeps the list claim
-pub filed-all : (s text old after refusals : List ℕ) (a : FiledLines) → FiledText (lent s 0) text old after refusals a
-    → FiledAll s text old after refusals (a .used)
-filed-all s text old after refusals a f =
-    let left : lent after (a .used) ≡ fileRun (lent s 0) (textFilings text) .state =
+pub filed-all : (s : List ℕ) (first : ℕ) (text old after refusals : List ℕ) (a : FiledLines) → FiledText (lent s 0) first text old after refusals a
+    → FiledAll s first text old after refusals (a .used)
+filed-all s first text old after refusals a f =
+    let left : lent after (a .used) ≡ fileRun (lent s 0) (textFilings first text) .state =
     λ i. record { bytes = f .bytes i; used = ap (λ (x : FiledLines). x .used) (f .answered) i }
     in
-    let all = list-claim s (textFilings text) in
+    let all = list-claim s (textFilings first text) in
     record { claim = rw left all; given = f .given }

@@ -18,7 +18,7 @@ use Rattle.register.specs.File.{Filing, numberGiven, fileRefusal, filedA
 use Rattle.register.specs.Ledger.{Ledger, ledgerRefusal, ledgerAfter, ledgerStep}
 use Rattle.register.proofs.LayoutLaws.{bytes-more, UsedPart, used-part, used-cut}
 use Rattle.register.proofs.CheckLaws.{whole-used, check-sound}
-use Rattle.register.proofs.FileLaws.{refusal-none, given-low, given-next, text-granted, text-refused, grown-none, laidOn, grown-laid, laid-length}
+use Rattle.register.proofs.FileLaws.{refusal-none, given-next, text-granted, text-refused, grown-none, laidOn, grown-laid, laid-length}
 use Rattle.register.proofs.LedgerLaws.{entered-by, entered-only, ledger-granted, Held, held-after}
 use Rattle.register.proofs.StepsLaws.{runs-square}
 
@@ -57,10 +57,10 @@ module _ (g : List ℕ) (b : Ledger) (held : Held (length g) b) where
       ap (grown (shown g b)) (text-refused (shown g b) f (λ e. refused (sym (shown-refusal f) ∙ e))) ∙ grown-none (shown g b))
       (λ none.
       ap (grown (shown g b)) (text-granted (shown g b) f (shown-refusal f ∙ none))
-      ∙ grown-laid g (bytesOf (b .lines)) (lineFor (numberGiven (usedLines (shown g b))) (f .line))
+      ∙ grown-laid g (bytesOf (b .lines)) (lineFor (numberGiven (usedLines (shown g b)) f) (f .line))
       ∙ ap (laidOn g)
-      (ap (λ (ls : List (List ℕ)). bytesOf (b .lines) ++ lineFor (numberGiven ls) (f .line)) shown-lines
-      ∙ sym (bytes-more (b .lines) (lineFor (numberGiven (b .lines)) (f .line)))))
+      (ap (λ (ls : List (List ℕ)). bytesOf (b .lines) ++ lineFor (numberGiven ls f) (f .line)) shown-lines
+      ∙ sym (bytes-more (b .lines) (lineFor (numberGiven (b .lines) f) (f .line)))))
 
   pub shown-step : (f : Filing) → fileStep (shown g b) f
       ≡ record { answer = ledgerStep (length g) b f .answer; state = shown g (ledgerStep (length g) b f .state) }
@@ -118,7 +118,7 @@ pub record StaysSound (number : ℕ) (after : Register) : Type 0 where
   pub next : nextNumber (usedLines after) ≡ following number
 
 shown-sound : (g : List ℕ) (b : Ledger) (f : Filing) → Held (length g) b → fileRefusal (shown g b) f ≡ 0
-    → StaysSound (numberGiven (usedLines (shown g b))) (fileStep (shown g b) f .state)
+    → StaysSound (numberGiven (usedLines (shown g b)) f) (fileStep (shown g b) f .state)
 unfolding ledgerStep
 shown-sound g b f held none =
     let given = sym (shown-refusal g b held f) ∙ none in
@@ -131,12 +131,12 @@ shown-sound g b f held none =
       checked = ap (λ (x : Checked). x .refusal) (shown-check g (ledgerAfter (length g) b f) held′) ∙ held′ .sound;
       next =
           ap nextNumber (shown-lines g (ledgerAfter (length g) b f) held′)
-          ∙ entered-only (λ (x : Ledger). nextNumber (x .lines) ≡ following (numberGiven (b .lines))) (length g) b f given
-          (given-next (b .lines) (f .line) (given-low (b .lines) (ledger-granted (length g) b f given .free)));
+          ∙ entered-only (λ (x : Ledger). nextNumber (x .lines) ≡ following (numberGiven (b .lines) f)) (length g) b f given
+          (given-next (b .lines) f (ledger-granted (length g) b f given .free));
     })
 
-pub step-sound : (r : Register) (f : Filing) → fileRefusal r f ≡ 0 → StaysSound (numberGiven (usedLines r)) (fileStep r f .state)
+pub step-sound : (r : Register) (f : Filing) → fileRefusal r f ≡ 0 → StaysSound (numberGiven (usedLines r) f) (fileStep r f .state)
 step-sound r f none =
     let sound = file-sound r f none in
-    subst (λ (x : Register). StaysSound (numberGiven (usedLines x)) (fileStep x f .state)) (own-shown r sound)
+    subst (λ (x : Register). StaysSound (numberGiven (usedLines x) f) (fileStep x f .state)) (own-shown r sound)
     (shown-sound (r .bytes) (ownLedger r) f (own-held r sound) (rw (own-shown r sound) none))

@@ -1,11 +1,13 @@
--- Filing a case ("Register" and "Refusals from the state" of document 01): a step of the register. Assumes nothing.
-use Prim.Native.Nat.{ℕ, _+_, _-_}
+-- Filing a case ("Register" and "Refusals from the state" of document 01, and request [5] of document 02): a step of the register.
+-- Assumes nothing.
+use Prim.Native.Nat.{ℕ, _+_, _-_, _*_}
 use mathlib.Core.Bool.{Bool, cond, not}
 use mathlib.Core.List.{List, [], _∷_, _++_}
 use mathlib.Core.Path.{_≡_}
 use lib.Dec.{leb, ltb, eqb}
 use lib.ListN.{length, take, drop}
 use Rattle.calendar.specs.Tests.{lowest}
+use Rattle.split.specs.Case.{headOf}
 use Rattle.split.specs.Refusal.{refusalOf}
 use Rattle.register.specs.declared.answers.Filed.{Filed}
 use Rattle.register.specs.Line.{figuresFor, figuresIn, lineFor}
@@ -14,33 +16,41 @@ use Rattle.register.specs.Check.{nextNumber, checkOf}
 use Rattle.register.specs.Find.{hasNumber, findRefusal, findLine}
 use Rattle.register.specs.Steps.{Step, runs}
 
--- what is filed: a case line
+-- what is filed: "a first number of 4 bytes" and a case line. The calls take 32 bits for the first; here it is any number.
 pub record Filing : Type 0 where
+  pub first : ℕ
   pub line : List ℕ
 
-abbrev pub filing : List ℕ → Filing
-filing c = record { line = c }
+abbrev pub filing : ℕ → List ℕ → Filing
+filing first c = record { first = first; line = c }
 
--- "number 1 in an empty register"
-abbrev pub firstNumber : ℕ
-firstNumber = 1
+-- the number that a filing gives in an empty register, and so sets: its first number, "with 0 meaning the default", which is
+-- "the commencement year of the case × 100,000 + 1"
+unfoldable pub numberSet : Filing → ℕ
+numberSet f = cond (eqb (f .first) 0) (headOf (f .line) .commencement .year * 100000 + 1) (f .first)
 
--- "number 1 in an empty register, else the last plus one": the number that filing gives behind lines
-unfoldable pub numberGiven : List (List ℕ) → ℕ
-numberGiven ls = cond (eqb (nextNumber ls) 0) firstNumber (nextNumber ls)
+-- the number given, where `next` is the number that a next line must have and 0 stands for any, as where there is no line:
+-- "A register that has lines ignores" the first number
+abbrev pub numberFrom : ℕ → Filing → ℕ
+numberFrom next f = cond (eqb next 0) (numberSet f) next
+
+-- the number that a filing gives behind lines: the one it sets where there is none, "else the last plus one"
+unfoldable pub numberGiven : List (List ℕ) → Filing → ℕ
+numberGiven ls f = numberFrom (nextNumber ls) f
 
 -- 12. "Fewer than 121 bytes free"
 abbrev pub noSpace : ℕ → ℕ → Bool
 noSpace buffer used = ltb (buffer - used) lineLength
 
--- 13. "Last number is FFFFFFFF": the next would not fit eight digits
-abbrev pub lastTaken : List (List ℕ) → Bool
-lastTaken ls = leb 4294967296 (nextNumber ls)
+-- 13. "Last number is FFFFFFFF": the number to give does not fit eight digits (`thirteen-last`). A first number of 4 bytes fits, and
+-- so does the default of an accepted case, so that an empty register never gives 13 (`thirteen-empty`).
+abbrev pub lastTaken : List (List ℕ) → Filing → Bool
+lastTaken ls f = leb 4294967296 (numberGiven ls f)
 
 -- "Filing gives these after all of the above": refusals 1 to 10 of the case, then 11, 12 and 13 of the state
 unfoldable pub refusalGiven : Filing → Bool → ℕ → ℕ → List (List ℕ) → ℕ
 refusalGiven f unsound buffer used ls =
-    cond (eqb (refusalOf (f .line)) 0) (lowest 11 (unsound ∷ noSpace buffer used ∷ lastTaken ls ∷ [])) (refusalOf (f .line))
+    cond (eqb (refusalOf (f .line)) 0) (lowest 11 (unsound ∷ noSpace buffer used ∷ lastTaken ls f ∷ [])) (refusalOf (f .line))
 
 unfoldable pub fileRefusal : Register → Filing → ℕ
 fileRefusal r f =
@@ -52,7 +62,7 @@ filedAnswer refusal used = cond (eqb refusal 0) (record { refusal = 0; used = us
 
 -- what filing writes: the next line, and nothing under a refusal
 unfoldable pub textFiled : Register → Filing → List ℕ
-textFiled r f = cond (eqb (fileRefusal r f) 0) (lineFor (numberGiven (usedLines r)) (f .line)) []
+textFiled r f = cond (eqb (fileRefusal r f) 0) (lineFor (numberGiven (usedLines r) f) (f .line)) []
 
 -- a text written over bytes from a place on, "and no other byte"
 abbrev pub over : ℕ → List ℕ → List ℕ → List ℕ

@@ -1,11 +1,12 @@
 -- The ledger, which is the "plain book" of document 01, and the claim of demand 3 about a list of filings. The ledger is fed
 -- each filing and the buffer's length, never the register's content. Assumes nothing.
-use Prim.Native.Nat.{ℕ, _+_, _<_}
+use Prim.Native.Nat.{ℕ, _+_, _*_, _<_}
 use mathlib.Core.Bool.{cond, not, _||_}
 use mathlib.Core.List.{List, [], _∷_, _++_}
 use mathlib.Core.Path.{_≡_}
 use lib.Dec.{eqb}
 use lib.ListN.{length, getD, drop}
+use Rattle.split.specs.Case.{headOf}
 use Rattle.split.specs.Refusal.{refusalOf}
 use Rattle.split.specs.Quote.{BestLumps}
 use Rattle.register.specs.declared.answers.Filed.{Filed}
@@ -13,7 +14,7 @@ use Rattle.register.specs.Line.{figuresFor, figuresIn, lineFor, totalIn,
 use Rattle.register.specs.Layout.{Register, bytesOf, usedBy}
 use Rattle.register.specs.Check.{badUsed, checkLines}
 use Rattle.register.specs.Steps.{Step, runs}
-use Rattle.register.specs.File.{Filing, filing, firstNumber, numberGiven, refusalGiven, filedAnswer}
+use Rattle.register.specs.File.{Filing, filing, numberGiven, refusalGiven, filedAnswer}
 
 -- "Its state is a list of register lines, none at first, which stand for the used part"; beside them stand the filings granted
 -- so far, for which only the claim below asks
@@ -35,7 +36,7 @@ ledgerRefusal buffer b f =
 abbrev pub entered : Ledger → Filing → Ledger
 entered b f =
     record {
-      lines = b .lines ++ (lineFor (numberGiven (b .lines)) (f .line) ∷ []);
+      lines = b .lines ++ (lineFor (numberGiven (b .lines) f) (f .line) ∷ []);
       granted = b .granted ++ (f ∷ []);
     }
 
@@ -67,6 +68,12 @@ pub record LineClaim (number : ℕ) (f : Filing) (l : List ℕ) : Type 0 where
   -- its lumps keep the caps, the allowance and the limits, and no rival that keeps them does better: see `BestLumps`
   pub best : BestLumps (f .line) (lumpsInLine l) (totalIn l)
 
+-- what is claimed of the number that a filing sets as the first of a register: where it gives one, that is it, and where it gives
+-- 0, it is 100,000 times the year of the case's commencement, plus 1
+pub record FirstClaim (f : Filing) (number : ℕ) : Type 0 where
+  pub given : 0 < f .first → number ≡ f .first
+  pub default : f .first ≡ 0 → number ≡ 1 + 100000 * headOf (f .line) .commencement .year
+
 -- What is claimed of a list of filings fs in a register that starts empty, with the bytes s: the answers that the filings gave and
 -- the register that they left.
 pub record ListClaim (s : List ℕ) (fs : List Filing) (ran : Step (List Filed) Register) : Type 0 where
@@ -77,8 +84,12 @@ pub record ListClaim (s : List ℕ) (fs : List Filing) (ran : Step (List Filed) 
       ≡ bytesOf (ledgerRun (length s) fs .state .lines) ++ drop (usedBy (ledgerRun (length s) fs .state .lines)) s
   -- "the used length is theirs"
   pub length-used : ran .state .used ≡ usedBy (ledgerRun (length s) fs .state .lines)
+  -- "the first number, as the first granted filing set it"
+  pub first : ℕ
+  pub first-set : 0 < length (ledgerRun (length s) fs .state .granted)
+      → FirstClaim (getD (ledgerRun (length s) fs .state .granted) 0 (filing 0 [])) first
   -- as many lines as granted filings; counted from 0 here, line k has the first number plus k and is the granted filing k's
   pub count : length (ledgerRun (length s) fs .state .lines) ≡ length (ledgerRun (length s) fs .state .granted)
   pub lines : (k : ℕ) → k < length (ledgerRun (length s) fs .state .granted)
-      → LineClaim (firstNumber + k) (getD (ledgerRun (length s) fs .state .granted) k (filing []))
+      → LineClaim (first + k) (getD (ledgerRun (length s) fs .state .granted) k (filing 0 []))
       (getD (ledgerRun (length s) fs .state .lines) k [])

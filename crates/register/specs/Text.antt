@@ -24,9 +24,9 @@ linesWith before (c ∷ cs) = cond (eqb c 10) (before ∷ linesWith [] cs) (line
 unfoldable pub textLines : List ℕ → List (List ℕ)
 textLines text = linesWith [] text
 
--- the filings of a text's lines
-abbrev pub textFilings : List ℕ → List Filing
-textFilings text = map filing (textLines text)
+-- the filings of a text's lines, each with the same first number
+abbrev pub textFilings : ℕ → List ℕ → List Filing
+textFilings first text = map (filing first) (textLines text)
 
 -- the refusals of answers over the bytes that were there, as far as there is room
 unfoldable pub refusalBytes : List Filed → List ℕ → List ℕ
@@ -34,16 +34,16 @@ refusalBytes [] old = old
 refusalBytes (a ∷ answers) [] = []
 refusalBytes (a ∷ answers) (o ∷ old) = a .refusal ∷ refusalBytes answers old
 
--- What filing the lines of a text in a register promises: the answer, the register's bytes and the refusals are those of
--- filing the lines one after the other.
-pub record FiledText (r : Register) (text old after refusals : List ℕ) (answer : FiledLines) : Type 0 where
-  pub answered : answer ≡ record { used = fileRun r (textFilings text) .state .used; lines = length (textLines text) }
-  pub bytes : after ≡ fileRun r (textFilings text) .state .bytes
-  pub given : refusals ≡ refusalBytes (fileRun r (textFilings text) .answer) old
+-- What filing the lines of a text in a register, each with the same first number, promises: the answer, the register's bytes and the
+-- refusals are those of filing the lines one after the other.
+pub record FiledText (r : Register) (first : ℕ) (text old after refusals : List ℕ) (answer : FiledLines) : Type 0 where
+  pub answered : answer ≡ record { used = fileRun r (textFilings first text) .state .used; lines = length (textLines text) }
+  pub bytes : after ≡ fileRun r (textFilings first text) .state .bytes
+  pub given : refusals ≡ refusalBytes (fileRun r (textFilings first text) .answer) old
 
--- What filing every line of a text into an empty register promises: the whole claim of demand 3 about the list of its lines, of
--- the very bytes and the used length that it leaves; and the refusals it gave.
-pub record FiledAll (s text old after refusals : List ℕ) (used : ℕ) : Type 0 where
-  pub claim : ListClaim s (textFilings text)
-      (record { answer = fileRun (lent s 0) (textFilings text) .answer; state = lent after used })
-  pub given : refusals ≡ refusalBytes (fileRun (lent s 0) (textFilings text) .answer) old
+-- What filing every line of a text into an empty register, each with the same first number, promises: the whole claim of demand 3
+-- about the list of its lines, of the very bytes and the used length that it leaves; and the refusals it gave.
+pub record FiledAll (s : List ℕ) (first : ℕ) (text old after refusals : List ℕ) (used : ℕ) : Type 0 where
+  pub claim : ListClaim s (textFilings first text)
+      (record { answer = fileRun (lent s 0) (textFilings first text) .answer; state = lent after used })
+  pub given : refusals ≡ refusalBytes (fileRun (lent s 0) (textFilings first text) .answer) old

@@ -1,6 +1,9 @@
 // Fills a register of 65,536 bytes with one case and prints what filing, the check and the finds then answer.
 use libc::STDOUT_FILENO;
 
+// The number of the first filed line.
+const FIRST_NUMBER: u32 = 1;
+
 fn text(words: &[u8]) {
     io::write_all(STDOUT_FILENO, words);
 }
@@ -21,7 +24,7 @@ fn fill(register: &mut [u8], line: &[u8]) -> Filling {
     let mut used = 0;
     let mut lines: u64 = 0;
     while lines < 1000 {
-        let filed = register::file(register, used, line);
+        let filed = register::file(register, used, FIRST_NUMBER, line);
         let refusal = filed.refusal;
         if refusal != 0 {
             return Filling {
@@ -42,7 +45,7 @@ fn fill(register: &mut [u8], line: &[u8]) -> Filling {
 
 // What filing a line answers, whose register stays as it is.
 fn refused(register: &mut [u8], used: usize, line: &[u8]) {
-    let filed = register::file(register, used, line);
+    let filed = register::file(register, used, FIRST_NUMBER, line);
     number(filed.refusal as u64);
     text(b"\n");
 }

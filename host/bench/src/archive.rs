@@ -18,7 +18,7 @@ use std::path::{self, Path};
 
 use engine::{Checked, Found, FoundMember, Quote};
 
-use crate::implementations::Implementation;
+use crate::implementations::{Implementation, FIRST_NUMBER};
 
 extern "C" {
     fn dlopen(path: *const c_char, flags: c_int) -> *mut c_void;
@@ -32,7 +32,8 @@ const RTLD_LOCAL: c_int = 0;
 
 type QuoteCall = unsafe extern "C" fn(*const u8, usize) -> Quote;
 type CheckCall = unsafe extern "C" fn(*const u8, usize, usize) -> Checked;
-type FileAllCall = unsafe extern "C" fn(*mut u8, usize, *const u8, usize, *mut u8, usize) -> usize;
+type FileAllCall =
+    unsafe extern "C" fn(*mut u8, usize, u32, *const u8, usize, *mut u8, usize) -> usize;
 type FindNumberCall = unsafe extern "C" fn(*const u8, usize, usize, u32) -> Found;
 type FindMemberCall = unsafe extern "C" fn(*const u8, usize, usize, u32) -> FoundMember;
 
@@ -111,7 +112,15 @@ impl Implementation for Archive {
         let (refusals, refusals_length) = (refusals.as_mut_ptr(), refusals.len());
         let (text, text_length) = (text.as_ptr(), text.len());
         unsafe {
-            (self.file_all)(register, register_length, text, text_length, refusals, refusals_length)
+            (self.file_all)(
+                register,
+                register_length,
+                FIRST_NUMBER,
+                text,
+                text_length,
+                refusals,
+                refusals_length,
+            )
         }
     }
 

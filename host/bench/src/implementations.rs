@@ -3,6 +3,9 @@
 use cases::answers;
 use engine::{Checked, Found, FoundMember, Quote};
 
+/// The number of the first line that is filed into a register.
+pub const FIRST_NUMBER: u32 = 1;
+
 /// The calls that are timed. Registers are used to their last byte, but by
 /// `file_all`, which starts with an empty one.
 pub trait Implementation {
@@ -31,7 +34,7 @@ impl Implementation for LinkedEngine {
     }
 
     fn file_all(&self, register: &mut [u8], text: &[u8], refusals: &mut [u8]) -> usize {
-        engine::file_all(register, text, refusals)
+        engine::file_all(register, FIRST_NUMBER, text, refusals)
     }
 
     fn check(&self, register: &[u8]) -> Checked {
@@ -61,7 +64,7 @@ impl Implementation for Reference {
     }
 
     fn file_all(&self, register: &mut [u8], text: &[u8], refusals: &mut [u8]) -> usize {
-        reference::register::file_all(register, text, refusals)
+        reference::register::file_all(register, FIRST_NUMBER, text, refusals)
     }
 
     fn check(&self, register: &[u8]) -> Checked {

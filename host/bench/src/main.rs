@@ -21,10 +21,10 @@ use std::path::{Path, PathBuf};
 use std::process::ExitCode;
 use std::time::Duration;
 
-use cases::allowances::{cut_line, uncut_line};
+use cases::allowances::cut_line;
 use cases::generator::Generator;
 use cases::month_ends::month_end_case;
-use cases::random::{mixed_line, mixed_text, text_of};
+use cases::random::{mixed_text, text_of};
 use cases::registers::{set_own_members, sound_register, LINE};
 
 use archive::Archive;
@@ -88,8 +88,7 @@ fn compare_with_reference() -> io::Result<()> {
 }
 
 /// An archive against another. Every line is quoted by both before the first
-/// row is printed, and every figure of the quotes must agree. One of the two may
-/// know no lump sum allowance, so no line states a used amount or is cut by it.
+/// row is printed, and every figure of the quotes must agree.
 fn compare_archives(before: Side<Archive>, after: Side<Archive>) -> io::Result<()> {
     let comparison = Comparison {
         left: before,
@@ -98,10 +97,10 @@ fn compare_archives(before: Side<Archive>, after: Side<Archive>) -> io::Result<(
         table: Table { left: "before", right: "after", quotient: Quotient::RightByLeft },
     };
     let mut random = Generator::for_test("bench");
-    let text = text_of(LINES, || uncut_line(|| mixed_line(&mut random)));
+    let text = mixed_text(&mut random, LINES);
     let register = register(&mut random);
     let mut random = Generator::for_test("bench of month ends");
-    let month_ends = text_of(LINES, || uncut_line(|| month_end_case(&mut random).line()));
+    let month_ends = text_of(LINES, || month_end_case(&mut random).line());
     comparison.assert_same_quotes(&text);
     comparison.assert_same_quotes(&month_ends);
     comparison.table.print_heading();

@@ -72,17 +72,6 @@ pub fn cut_line(random: &mut Generator) -> Vec<u8> {
     }
 }
 
-/// Draws lines until one is not cut by the allowance, if only because it is
-/// refused. Rules with and without an allowance agree on such a line.
-pub fn uncut_line(mut draw: impl FnMut() -> Vec<u8>) -> Vec<u8> {
-    loop {
-        let line = draw();
-        if !is_cut(&line) {
-            return line;
-        }
-    }
-}
-
 /// Whether the allowance makes the lump sums of a line less than they would be
 /// without it.
 fn is_cut(line: &[u8]) -> bool {

@@ -29,8 +29,8 @@ pub fn check(register: &[u8], used: usize) -> Checked {
     }
 }
 
-pub fn file(register: &mut [u8], used: usize, line: &[u8]) -> Filed {
-    match book::file(register, used, line) {
+pub fn file(register: &mut [u8], used: usize, first_number: u32, line: &[u8]) -> Filed {
+    match book::file(register, used, first_number, line) {
         Ok(used) => Filed { refusal: 0, used },
         Err(refusal) => Filed { refusal: number(refusal), used: 0 },
     }

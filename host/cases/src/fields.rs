@@ -132,6 +132,21 @@ pub fn plain_case(kinds: &[u8]) -> CaseFields {
     }
 }
 
+/// A good case of somebody with these dates, who was in service from the day after
+/// birth on: kind 1 with a stated factor, which no age forbids.
+pub fn case_between(birth: Date, commencement: Date) -> CaseFields {
+    let mut case = plain_case(&[1]);
+    (case.birth, case.commencement) = (birth, commencement);
+    (case.pensions[0].start, case.pensions[0].end) = (day_after(birth), commencement);
+    case
+}
+
+/// A good case that commences in a year, 1918 at the earliest: the calendar has
+/// births from 1900 on, and the youngest are 18.
+pub fn case_of_year(year: u16) -> CaseFields {
+    case_between(Date::new(year - 18, 1, 1), Date::new(year, 7, 1))
+}
+
 /// Good cases with a pension of one kind at every place of 1 to 4 pensions,
 /// and that place. The other pensions are of kind 1.
 pub fn at_every_place(kind: u8) -> impl Iterator<Item = (CaseFields, usize)> {

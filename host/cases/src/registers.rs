@@ -16,6 +16,18 @@ pub const MEMBERS: [u32; 5] = [0, 1, 7, 0xABCD_EF01, u32::MAX];
 /// A member of no random register.
 pub const NOBODY: u32 = 0x0BAD_0BAD;
 
+/// First numbers to file with: 0 for the default, and numbers at the ends of a
+/// year's share, of 31 bits and of 32.
+pub const FIRST_NUMBERS: [u32; 9] =
+    [0, 1, 2, 99_999, 100_000, 0x7FFF_FFFF, 0x8000_0000, u32::MAX - 1, u32::MAX];
+
+/// A first number to file with: the default, one at an end, or any.
+pub fn any_first_number(random: &mut Generator) -> u32 {
+    let at_an_end = random.pick(&FIRST_NUMBERS);
+    let any = random.next() as u32;
+    random.pick(&[0, at_an_end, any])
+}
+
 /// A sound register of lines numbered from `first`, with amounts that need not
 /// come from any case.
 pub fn sound_register(random: &mut Generator, lines: usize, first: u32) -> Vec<u8> {
@@ -27,6 +39,18 @@ pub fn sound_register(random: &mut Generator, lines: usize, first: u32) -> Vec<u
         register.extend(random.digits(OTHER_DIGITS));
         register.push(b'\n');
     }
+    register
+}
+
+/// A sound register with free bytes of any kind behind its lines.
+pub fn register_with_room(
+    random: &mut Generator,
+    lines: usize,
+    first: u32,
+    free: usize,
+) -> Vec<u8> {
+    let mut register = sound_register(random, lines, first);
+    register.extend(random.bytes(free));
     register
 }
 

@@ -91,27 +91,38 @@ pub fn check(register: &[u8], used: usize) -> Checked {
     optional::check(Some(register), used)
 }
 
-/// Files one case line behind the used part of a register.
-pub fn file(register: &mut [u8], used: usize, line: &[u8]) -> Filed {
-    optional::file(Some(register), used, Some(line))
+/// Files one case line behind the used part of a register. In an empty one it gets
+/// the first number, where 0 stands for the commencement year of the case times
+/// 100,000 plus 1; a register that has lines goes on from its last, and the first
+/// number, whatever it is, is not looked at.
+pub fn file(register: &mut [u8], used: usize, first_number: u32, line: &[u8]) -> Filed {
+    optional::file(Some(register), used, first_number, Some(line))
 }
 
 /// Files the lines of a text one after the other behind the used part of a
-/// register. `refusals` gets one byte for each line as far as it has room.
+/// register, each as `file` does with the same first number. `refusals` gets one
+/// byte for each line as far as it has room.
 pub fn file_lines(
     register: &mut [u8],
     used: usize,
+    first_number: u32,
     lines: &[u8],
     refusals: &mut [u8],
 ) -> FiledLines {
-    optional::file_lines(Some(register), used, Some(lines), Some(refusals))
+    optional::file_lines(Some(register), used, first_number, Some(lines), Some(refusals))
 }
 
 /// Files every line of a text into a register that starts empty, whatever its
-/// bytes. Gives the used length; `refusals` gets one byte for each line as far
-/// as it has room.
-pub fn file_all(register: &mut [u8], lines: &[u8], refusals: &mut [u8]) -> usize {
-    optional::file_all(Some(register), Some(lines), Some(refusals))
+/// bytes: the first that is granted gets the first number, as `file` has it, and
+/// each one after it the next. Gives the used length; `refusals` gets one byte for
+/// each line as far as it has room.
+pub fn file_all(
+    register: &mut [u8],
+    first_number: u32,
+    lines: &[u8],
+    refusals: &mut [u8],
+) -> usize {
+    optional::file_all(Some(register), first_number, Some(lines), Some(refusals))
 }
 
 /// Finds the register line with a quote number.

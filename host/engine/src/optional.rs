@@ -27,17 +27,23 @@ pub fn check(register: Option<&[u8]>, used: usize) -> Checked {
     unsafe { raw::pension_check(register, register_length, used) }
 }
 
-pub fn file(register: Option<&mut [u8]>, used: usize, line: Option<&[u8]>) -> Filed {
+pub fn file(
+    register: Option<&mut [u8]>,
+    used: usize,
+    first_number: u32,
+    line: Option<&[u8]>,
+) -> Filed {
     let (register, register_length) = parts_mut(register);
     let (line, line_length) = parts(line);
     // SAFETY: pointers and lengths are those of live slices that do not
     // overlap, or null and 0; the engine tests `used` itself.
-    unsafe { raw::pension_file(register, register_length, used, line, line_length) }
+    unsafe { raw::pension_file(register, register_length, used, first_number, line, line_length) }
 }
 
 pub fn file_lines(
     register: Option<&mut [u8]>,
     used: usize,
+    first_number: u32,
     lines: Option<&[u8]>,
     refusals: Option<&mut [u8]>,
 ) -> FiledLines {
@@ -51,6 +57,7 @@ pub fn file_lines(
             register,
             register_length,
             used,
+            first_number,
             lines,
             lines_length,
             refusals,
@@ -61,6 +68,7 @@ pub fn file_lines(
 
 pub fn file_all(
     register: Option<&mut [u8]>,
+    first_number: u32,
     lines: Option<&[u8]>,
     refusals: Option<&mut [u8]>,
 ) -> usize {
@@ -73,6 +81,7 @@ pub fn file_all(
         raw::pension_file_all(
             register,
             register_length,
+            first_number,
             lines,
             lines_length,
             refusals,

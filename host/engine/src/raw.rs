@@ -11,6 +11,7 @@ extern "C" {
         register: *mut u8,
         register_length: usize,
         used: usize,
+        first_number: u32,
         line: *const u8,
         line_length: usize,
     ) -> Filed;
@@ -19,6 +20,7 @@ extern "C" {
         register: *mut u8,
         register_length: usize,
         used: usize,
+        first_number: u32,
         lines: *const u8,
         lines_length: usize,
         refusals: *mut u8,
@@ -28,6 +30,7 @@ extern "C" {
     pub fn pension_file_all(
         register: *mut u8,
         register_length: usize,
+        first_number: u32,
         lines: *const u8,
         lines_length: usize,
         refusals: *mut u8,

@@ -45,7 +45,8 @@ pub fn accept(line: &[u8]) -> Result<Case, Refusal> {
     }
     let used = LumpPence(u64::from(stated.used_allowance));
     let left = allowance::left(stated.commencement, used);
-    Ok(Case::new(stated.member, stated.pensions().len(), pensions, left))
+    let count = stated.pensions().len();
+    Ok(Case::new(stated.member, stated.commencement, count, pensions, left))
 }
 
 fn dates_are_in_calendar(case: &StatedCase) -> bool {

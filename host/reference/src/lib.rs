@@ -1,9 +1,9 @@
 //! Reference implementation of the retirement quotation engine for police
 //! pensions.
 //!
-//! It is written from the rules document, the first four of the change requests
-//! and the tables of the source documents alone and shares no code with the
-//! proved engine, so that the two can be held against each other.
+//! It is written from the rules document, the first five change requests and the
+//! tables of the source documents and shares no code with the proved engine, so
+//! that the two can be held against each other.
 //!
 //! Modules use one another in one direction: [`money`], [`factors`],
 //! [`calendar`], [`hexadecimal`] and [`refusals`], then [`trivial_commutation`],

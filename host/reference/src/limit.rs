@@ -92,6 +92,7 @@ impl ExactLimit {
 #[cfg(test)]
 mod tests {
     use super::*;
+    use crate::calendar::Date;
     use crate::factors::Factor;
     use crate::money::YearlyPence;
     use crate::split::Pension;
@@ -118,7 +119,7 @@ mod tests {
         let pension = Pension::new(YearlyPence(3_200_000), factor, 1000);
         let mut pensions = [Pension::NONE; MOST_PENSIONS];
         pensions[0] = pension;
-        let limit = ExactLimit::of(&Case::new(1, 1, pensions, None));
+        let limit = ExactLimit::of(&Case::new(1, Date::new(2023, 4, 3), 1, pensions, None));
         let lumps = |lump| [LumpPence(lump), LumpPence(0), LumpPence(0), LumpPence(0)];
         assert!(limit.is_kept_by(&lumps(17_015_192)));
         assert!(!limit.is_kept_by(&lumps(17_015_193)));

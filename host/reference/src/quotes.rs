@@ -8,6 +8,9 @@ use crate::register::Ledger;
 /// Bytes of the program's register.
 pub const REGISTER_LENGTH: usize = 65_536;
 
+/// The number of the first line that is filed, whatever year its case commences in.
+const FIRST_NUMBER: u32 = 1;
+
 /// Reads case lines and prints, for each, the register line it was filed as or
 /// its refusal. The register starts empty and nobody else writes it, so it is
 /// never checked again.
@@ -17,7 +20,7 @@ pub fn run(mut input: impl BufRead, mut output: impl Write) -> io::Result<()> {
     let mut line = Vec::new();
     while input.read_until(b'\n', &mut line)? > 0 {
         let case_line = line.strip_suffix(b"\n").unwrap_or(&line);
-        match ledger.file(case_line) {
+        match ledger.file(FIRST_NUMBER, case_line) {
             Ok(filed) => output.write_all(filed)?,
             Err(refusal) => output.write_all(&refusal_line(refusal))?,
         }

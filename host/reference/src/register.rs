@@ -2,11 +2,12 @@
 
 use std::ops::Range;
 
+use crate::acceptance::accept;
+use crate::calendar::Date;
 use crate::case_line::MOST_PENSIONS;
 use crate::hexadecimal::{self, NUMBER_DIGITS};
-use crate::quoting::quote;
 use crate::refusals::Refusal;
-use crate::split::Quote;
+use crate::split::{self, Case, Quote};
 
 /// Hexadecimal digits of a register line.
 pub const LINE_DIGITS: usize = NUMBERS_IN_LINE * NUMBER_DIGITS;
@@ -19,6 +20,11 @@ const NUMBERS_IN_HEAD: usize = 3;
 const NUMBERS_IN_PENSION: usize = 3;
 const NUMBERS_IN_LINE: usize = NUMBERS_IN_HEAD + MOST_PENSIONS * NUMBERS_IN_PENSION;
 const MEMBER_PLACE: Range<usize> = NUMBER_DIGITS..2 * NUMBER_DIGITS;
+
+/// The first number that stands for the default. No line has it.
+const DEFAULT: u32 = 0;
+/// From the default first number of a year to that of the next.
+const NUMBERS_OF_A_YEAR: u32 = 100_000;
 
 /// Where a register is bad: the offset of its first bad character, or the used
 /// length if that is bad itself.
@@ -67,22 +73,31 @@ fn number_field(line: &[u8]) -> &[u8; NUMBER_DIGITS] {
 }
 
 /// Files a case line behind the used part of a register and gives the used
-/// length from then on. The case line is tested first, then the register.
-pub fn file(register: &mut [u8], used: usize, line: &[u8]) -> Result<usize, Refusal> {
-    let quote = quote(line)?;
+/// length from then on. The case line is tested first, then the register; the
+/// first number is never refused. An empty register takes it for the line, 0
+/// standing for that of the case's commencement year; one that has lines goes on
+/// from its last and ignores it.
+pub fn file(
+    register: &mut [u8],
+    used: usize,
+    first_number: u32,
+    line: &[u8],
+) -> Result<usize, Refusal> {
+    let case = accept(line)?;
     let mut ledger = Ledger::open(register, used)?;
-    ledger.append(&quote)?;
+    ledger.append(first_number, &case)?;
     Ok(ledger.used())
 }
 
 /// Files every line of a text into a register that starts empty, whatever its
-/// bytes, and gives its used length. Each line's refusal (0 for none) goes into
+/// bytes, and gives its used length. Every line is given the same first number,
+/// which counts until one is filed. Each line's refusal (0 for none) goes into
 /// `refusals` as far as there is room.
-pub fn file_all(register: &mut [u8], text: &[u8], refusals: &mut [u8]) -> usize {
+pub fn file_all(register: &mut [u8], first_number: u32, text: &[u8], refusals: &mut [u8]) -> usize {
     let mut ledger = Ledger::empty(register);
     let mut room = refusals.iter_mut();
     for line in lines(text) {
-        let refusal = ledger.file(line).map_or_else(Refusal::number, |_| 0);
+        let refusal = ledger.file(first_number, line).map_or_else(Refusal::number, |_| 0);
         if let Some(place) = room.next() {
             *place = refusal;
         }
@@ -164,21 +179,38 @@ impl<'a> Ledger<'a> {
     }
 
     /// Files a case line and gives the register line written for it.
-    pub fn file(&mut self, line: &[u8]) -> Result<&[u8], Refusal> {
-        let quote = quote(line)?;
-        self.append(&quote)
+    pub fn file(&mut self, first_number: u32, line: &[u8]) -> Result<&[u8], Refusal> {
+        let case = accept(line)?;
+        self.append(first_number, &case)
     }
 
-    /// Writes the register line of a quote behind the used part.
-    fn append(&mut self, quote: &Quote) -> Result<&[u8], Refusal> {
+    /// Writes the register line of a case's quote behind the used part.
+    fn append(&mut self, first_number: u32, case: &Case) -> Result<&[u8], Refusal> {
+        let quote = split::quote(case);
         let line =
             self.register[self.used..].first_chunk_mut::<LINE_LENGTH>().ok_or(Refusal::NoSpace)?;
-        let number = self.last.checked_add(1).ok_or(Refusal::LastNumber)?;
-        write_line(number, quote, line);
+        let number = number_after(self.last, first_number, case.commencement)?;
+        write_line(number, &quote, line);
         self.used += LINE_LENGTH;
         self.last = number;
         Ok(line)
     }
+}
+
+/// The number of a line behind the line numbered `last`. Where there is none (0)
+/// it is the first number that comes with the case.
+fn number_after(last: u32, first_number: u32, commencement: Date) -> Result<u32, Refusal> {
+    match (last, first_number) {
+        (0, DEFAULT) => Ok(default_first_number(commencement)),
+        (0, given) => Ok(given),
+        _ => last.checked_add(1).ok_or(Refusal::LastNumber),
+    }
+}
+
+/// The default first number, which tells the year that a case commences in. The
+/// years of the calendar leave it room in eight digits.
+fn default_first_number(commencement: Date) -> u32 {
+    u32::from(commencement.year) * NUMBERS_OF_A_YEAR + 1
 }
 
 /// Writes a register line: quote number, member, total lump sum, and lump sum,
@@ -212,5 +244,43 @@ mod tests {
     #[test]
     fn lengths_of_the_rules() {
         assert_eq!((LINE_DIGITS, LINE_LENGTH), (120, 121));
+    }
+
+    /// The example of the rules, which commences on 1 July 2023.
+    const CASE: &[u8] = b"0000000107B2060F07E707010101002DC6C007C9060107E70701000000000000000000";
+
+    /// Files the example with each first number in turn and gives the numbers of
+    /// the lines, and the refusal that ended the list if there was one.
+    fn numbers_filed(first_numbers: &[u32], length: usize) -> (Vec<u32>, Option<Refusal>) {
+        let mut register = vec![b'-'; length];
+        let (mut used, mut numbers) = (0, Vec::new());
+        for &first_number in first_numbers {
+            match file(&mut register, used, first_number, CASE) {
+                Ok(after) => used = after,
+                Err(refusal) => return (numbers, Some(refusal)),
+            }
+            numbers.push(check(&register, used).expect("a sound register"));
+        }
+        (numbers, None)
+    }
+
+    #[test]
+    fn first_numbers() {
+        assert_eq!(
+            numbers_filed(&[0, 0, 1], 400),
+            (vec![202_300_001, 202_300_002, 202_300_003], None)
+        );
+        assert_eq!(numbers_filed(&[1, 0, 77], 400), (vec![1, 2, 3], None));
+        assert_eq!(numbers_filed(&[77, 1], 400), (vec![77, 78], None));
+    }
+
+    #[test]
+    fn the_last_number_as_the_first() {
+        let full = numbers_filed(&[u32::MAX, 1], LINE_LENGTH);
+        assert_eq!(full, (vec![u32::MAX], Some(Refusal::NoSpace)));
+        let used_up = numbers_filed(&[u32::MAX, 1], 2 * LINE_LENGTH);
+        assert_eq!(used_up, (vec![u32::MAX], Some(Refusal::LastNumber)));
+        let one_before = numbers_filed(&[u32::MAX - 1, 0, 0], 3 * LINE_LENGTH);
+        assert_eq!(one_before, (vec![u32::MAX - 1, u32::MAX], Some(Refusal::LastNumber)));
     }
 }

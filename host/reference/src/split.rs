@@ -2,6 +2,7 @@
 
 use std::array;
 
+use crate::calendar::Date;
 use crate::case_line::MOST_PENSIONS;
 use crate::factors::{self, Factor};
 use crate::money::{LumpPence, YearlyPence};
@@ -59,6 +60,9 @@ impl Pension {
 #[derive(Clone, Copy, Debug)]
 pub struct Case {
     pub member: u32,
+    /// The split does not look at it: what is left of the allowance on that day
+    /// is stated apart.
+    pub commencement: Date,
     count: usize,
     pensions: [Pension; MOST_PENSIONS],
     /// The most that the lump sums may total: what is left of the lump sum
@@ -70,11 +74,12 @@ impl Case {
     /// The first `count` of `pensions` are the case's own.
     pub fn new(
         member: u32,
+        commencement: Date,
         count: usize,
         pensions: [Pension; MOST_PENSIONS],
         allowance: Option<LumpPence>,
     ) -> Self {
-        Case { member, count, pensions, allowance }
+        Case { member, commencement, count, pensions, allowance }
     }
 
     pub fn pensions(&self) -> &[Pension] {
@@ -145,7 +150,8 @@ mod tests {
             let factor = Factor::straight_from_service(f1);
             *pension = Pension::new(YearlyPence(2_000_000), factor, 0);
         }
-        Case::new(1, factors.len(), pensions, allowance.map(LumpPence))
+        let commencement = Date::new(2024, 4, 6);
+        Case::new(1, commencement, factors.len(), pensions, allowance.map(LumpPence))
     }
 
     fn granted(factors: &[u16], allowance: Option<u64>) -> [u64; MOST_PENSIONS] {

@@ -4,7 +4,7 @@
 mod common;
 
 use cases::fields::plain_case;
-use cases::registers::LINE;
+use cases::registers::{FIRST_NUMBERS, LINE};
 use common::guarded::{lend, lend_mut};
 use engine::{optional, Checked, Filed, FiledLines, Found, FoundMember, Quote};
 
@@ -63,28 +63,32 @@ fn filing_into_nothing() {
     let good = plain_case(&[1]).line();
     for is_null in [true, false] {
         let register = || if is_null { None } else { Some(&mut [][..]) };
-        lend(&good, |line| {
-            assert_eq!(optional::file(register(), 0, Some(line)), NO_SPACE);
-            for used in BEYOND {
-                assert_eq!(optional::file(register(), used, Some(line)), BAD_REGISTER);
+        for first in FIRST_NUMBERS {
+            lend(&good, |line| {
+                assert_eq!(optional::file(register(), 0, first, Some(line)), NO_SPACE);
+                for used in BEYOND {
+                    assert_eq!(optional::file(register(), used, first, Some(line)), BAD_REGISTER);
+                }
+            });
+            for line in nothing() {
+                assert_eq!(optional::file(register(), 0, first, line), EMPTY_LINE);
+                assert_eq!(optional::file(register(), usize::MAX, first, line), EMPTY_LINE);
             }
-        });
-        for line in nothing() {
-            assert_eq!(optional::file(register(), 0, line), EMPTY_LINE);
-            assert_eq!(optional::file(register(), usize::MAX, line), EMPTY_LINE);
         }
     }
 }
 
 #[test]
 fn filing_nothing() {
+    let before = [0x5A; 2 * LINE];
     for line in nothing() {
         for used in [0, LINE, 2 * LINE, 2 * LINE + 1, usize::MAX] {
-            let before = [0x5A; 2 * LINE];
-            let (filed, after) =
-                lend_mut(&before, |register| optional::file(Some(register), used, line));
-            assert_eq!(filed, EMPTY_LINE);
-            assert_eq!(after, before);
+            for first in FIRST_NUMBERS {
+                let (filed, after) =
+                    lend_mut(&before, |register| optional::file(Some(register), used, first, line));
+                assert_eq!(filed, EMPTY_LINE);
+                assert_eq!(after, before);
+            }
         }
     }
 }
@@ -95,23 +99,38 @@ fn filing_with_a_used_length_beyond() {
     for length in [1, LINE - 1, LINE, 2 * LINE, 400] {
         let before = vec![b'0'; length];
         for used in BEYOND.into_iter().chain([length + 1]).filter(|&used| used > length) {
-            let (filed, after) = lend_mut(&before, |register| engine::file(register, used, &good));
-            assert_eq!(filed, BAD_REGISTER);
-            assert_eq!(after, before);
+            for first in FIRST_NUMBERS {
+                let (filed, after) =
+                    lend_mut(&before, |register| engine::file(register, used, first, &good));
+                assert_eq!(filed, BAD_REGISTER);
+                assert_eq!(after, before);
+            }
         }
     }
 }
 
+/// A text of a good line and a blank one.
+fn good_and_blank() -> Vec<u8> {
+    [plain_case(&[1]).line(), b"\n\n".to_vec()].concat()
+}
+
 #[test]
 fn filing_texts_with_buffers_missing() {
-    let text = [plain_case(&[1]).line(), b"\n\n".to_vec()].concat();
+    for first in FIRST_NUMBERS {
+        assert_texts_with_buffers_missing(first, &good_and_blank());
+    }
+    assert_eq!(engine::file_all(&mut [], 1, &[], &mut []), 0);
+}
+
+fn assert_texts_with_buffers_missing(first: u32, text: &[u8]) {
     // No register: both lines are refused, for want of room and of a case.
-    let (used, refusals) =
-        lend_mut(&[0xEE; 3], |refusals| optional::file_all(None, Some(&text), Some(refusals)));
+    let (used, refusals) = lend_mut(&[0xEE; 3], |refusals| {
+        optional::file_all(None, first, Some(text), Some(refusals))
+    });
     assert_eq!((used, refusals), (0, vec![12, 2, 0xEE]));
     // No room for refusals.
     let (used, register) = lend_mut(&[0xEE; LINE + 9], |register| {
-        optional::file_all(Some(register), Some(&text), None)
+        optional::file_all(Some(register), first, Some(text), None)
     });
     assert_eq!(used, LINE);
     assert_eq!(register[LINE..], [0xEE; 9]);
@@ -119,7 +138,7 @@ fn filing_texts_with_buffers_missing() {
     for text in nothing() {
         let (used, register) = lend_mut(&[0xEE; 130], |register| {
             let (used, refusals) = lend_mut(&[0xDD; 3], |refusals| {
-                optional::file_all(Some(register), text, Some(refusals))
+                optional::file_all(Some(register), first, text, Some(refusals))
             });
             assert_eq!(refusals, [0xDD; 3]);
             used
@@ -127,26 +146,33 @@ fn filing_texts_with_buffers_missing() {
         assert_eq!((used, register), (0, vec![0xEE; 130]));
     }
     // Neither register nor refusals, and nothing whatever.
-    assert_eq!(optional::file_all(None, Some(&text), None), 0);
-    assert_eq!(optional::file_all(None, None, None), 0);
-    assert_eq!(engine::file_all(&mut [], &[], &mut []), 0);
+    assert_eq!(optional::file_all(None, first, Some(text), None), 0);
+    assert_eq!(optional::file_all(None, first, None, None), 0);
 }
 
 #[test]
 fn filing_lines_with_buffers_missing_or_too_short() {
-    let text = [plain_case(&[1]).line(), b"\n\n".to_vec()].concat();
-    for used in BEYOND {
-        let (filed, refusals) = lend_mut(&[0xEE; 3], |refusals| {
-            optional::file_lines(None, used, Some(&text), Some(refusals))
-        });
-        assert_eq!(filed, FiledLines { used, lines: 2 });
-        assert_eq!(refusals, [11, 2, 0xEE]);
-        let (filed, register) = lend_mut(&[0x5A; LINE - 1], |register| {
-            optional::file_lines(Some(register), used, Some(&text), None)
-        });
-        assert_eq!(filed, FiledLines { used, lines: 2 });
-        assert_eq!(register, [0x5A; LINE - 1]);
-        assert_eq!(optional::file_lines(None, used, None, None), FiledLines { used, lines: 0 });
+    for first in FIRST_NUMBERS {
+        for used in BEYOND {
+            assert_lines_with_buffers_missing(used, first, &good_and_blank());
+        }
+        let filed = optional::file_lines(None, 0, first, None, None);
+        assert_eq!(filed, FiledLines { used: 0, lines: 0 });
     }
-    assert_eq!(optional::file_lines(None, 0, None, None), FiledLines { used: 0, lines: 0 });
+}
+
+/// The used length is one that no register here has.
+fn assert_lines_with_buffers_missing(used: usize, first: u32, text: &[u8]) {
+    let (filed, refusals) = lend_mut(&[0xEE; 3], |refusals| {
+        optional::file_lines(None, used, first, Some(text), Some(refusals))
+    });
+    assert_eq!(filed, FiledLines { used, lines: 2 });
+    assert_eq!(refusals, [11, 2, 0xEE]);
+    let (filed, register) = lend_mut(&[0x5A; LINE - 1], |register| {
+        optional::file_lines(Some(register), used, first, Some(text), None)
+    });
+    assert_eq!(filed, FiledLines { used, lines: 2 });
+    assert_eq!(register, [0x5A; LINE - 1]);
+    let filed = optional::file_lines(None, used, first, None, None);
+    assert_eq!(filed, FiledLines { used, lines: 0 });
 }

@@ -407,7 +407,7 @@ fn filings_with_every_fault() {
         for field in 0..4 {
             let mut case = plain_case(&[1]);
             case.set_date(0, field, date);
-            let (filed, after) = assert_file(&register, 0, &case.line());
+            let (filed, after) = assert_file(&register, 0, 1, &case.line());
             assert_eq!((filed.refusal, filed.used), (3, 0), "{case:?}");
             assert_eq!(after, register, "{case:?}");
         }

@@ -6,18 +6,13 @@ use cases::allowances::{allowance_case, any_allowance_case, cut_line};
 use cases::fields::{plain_case, refused_line};
 use cases::generator::Generator;
 use cases::random::{any_case, good_case, kind_lists};
-use cases::registers::{sound_register, LINE, NOBODY};
+use cases::registers::{any_first_number, register_with_room, sound_register, LINE, NOBODY};
+use common::book::register_line;
 use common::compare::{
     assert_file, assert_file_all, assert_file_lines, assert_find_member, assert_find_number,
 };
+use common::texts::{any_line, any_text};
 use reference::quotes::REGISTER_LENGTH;
-
-/// A register of sound lines with free bytes behind them.
-fn register_with_room(random: &mut Generator, lines: usize, first: u32, free: usize) -> Vec<u8> {
-    let mut register = sound_register(random, lines, first);
-    register.extend(random.bytes(free));
-    register
-}
 
 #[test]
 fn good_cases_are_filed() {
@@ -28,7 +23,7 @@ fn good_cases_are_filed() {
             let free = LINE + random.below(200);
             let register = register_with_room(&mut random, lines, first, free);
             let case = good_case(&mut random, &kinds);
-            let (filed, after) = assert_file(&register, lines * LINE, &case.line());
+            let (filed, after) = assert_file(&register, lines * LINE, 1, &case.line());
             assert_eq!((filed.refusal, filed.used), (0, (lines + 1) * LINE));
             let number = if lines == 0 { 1 } else { first + lines as u32 };
             let heading = format!("{number:08X}{:08X}", case.member);
@@ -48,19 +43,13 @@ fn cases_at_the_allowance_are_filed() {
             let free = LINE + random.below(200);
             let register = register_with_room(&mut random, lines, 1, free);
             let case = allowance_case(&mut random, &kinds);
-            let (filed, after) = assert_file(&register, lines * LINE, &case.line());
+            let (filed, after) = assert_file(&register, lines * LINE, 1, &case.line());
             assert_eq!((filed.refusal, filed.used), (0, (lines + 1) * LINE));
             let quote = engine::quote(&case.line());
-            let mut expected = format!("{:08X}{:08X}{:08X}", lines + 1, case.member, quote.total);
-            for place in 0..4 {
-                let (lump, remaining) = (quote.lump[place], quote.remaining[place]);
-                let second = quote.second[place];
-                expected.push_str(&format!("{lump:08X}{remaining:08X}{second:08X}"));
-            }
-            expected.push('\n');
+            let expected = register_line(lines as u32 + 1, &quote);
             assert_eq!(
                 after[lines * LINE..filed.used].escape_ascii().to_string(),
-                expected.as_bytes().escape_ascii().to_string()
+                expected.escape_ascii().to_string()
             );
         }
     }
@@ -72,7 +61,7 @@ fn cases_at_the_allowance_are_filed() {
 #[test]
 fn the_written_line_of_half_the_allowance() {
     let line = b"0000000507B2060F07E8040601010098968007C4060F07E2060F0009C400000000000000CCAD76";
-    let (_, after) = assert_file(&[0xEE; 130], 0, line);
+    let (_, after) = assert_file(&[0xEE; 130], 0, 1, line);
     let mut expected = b"000000010000000500CCAD7600CCAD760090669A".to_vec();
     expected.resize(LINE - 1, b'0');
     expected.push(b'\n');
@@ -84,7 +73,7 @@ fn the_written_line_of_half_the_allowance() {
 #[test]
 fn the_written_line() {
     let line = b"0000000107B2060F07E707010101002DC6C007C9060107E70701000000000000000000";
-    let (_, after) = assert_file(&[0xEE; 130], 0, line);
+    let (_, after) = assert_file(&[0xEE; 130], 0, 1, line);
     let mut expected = b"000000010000000100F1BACB00F1BACB0024426C".to_vec();
     expected.resize(LINE - 1, b'0');
     expected.push(b'\n');
@@ -99,7 +88,7 @@ fn fewer_than_121_bytes_free() {
     for lines in [0, 1, 3] {
         for free in 0..=LINE + 3 {
             let register = register_with_room(&mut random, lines, 1, free);
-            let (filed, _) = assert_file(&register, lines * LINE, &line);
+            let (filed, _) = assert_file(&register, lines * LINE, 1, &line);
             assert_eq!(filed.refusal, if free < LINE { 12 } else { 0 });
         }
     }
@@ -115,7 +104,7 @@ fn last_number_used_up() {
         {
             let first = u32::MAX - before_last - (lines as u32 - 1);
             let register = register_with_room(&mut random, lines, first, free);
-            let (filed, after) = assert_file(&register, lines * LINE, &line);
+            let (filed, after) = assert_file(&register, lines * LINE, 1, &line);
             assert_eq!(filed.refusal, refusal);
             if refusal == 0 {
                 assert_eq!(&after[lines * LINE..][..8], b"FFFFFFFF");
@@ -140,11 +129,11 @@ fn refusals_of_line_and_register_together() {
             [(&sound, whole), (&damaged, whole), (&sound, whole - 1), (&sound, 999 * LINE)]
         {
             for (refusal, line) in (1..).zip(&refused) {
-                let (filed, after) = assert_file(register, used, line);
+                let (filed, after) = assert_file(register, used, 1, line);
                 assert_eq!((filed.refusal, filed.used), (refusal, 0));
                 assert!(after == *register);
             }
-            let (filed, _) = assert_file(register, used, &good);
+            let (filed, _) = assert_file(register, used, 1, &good);
             if used != whole || *register == damaged {
                 assert_eq!((filed.refusal, filed.used), (11, 0));
             }
@@ -162,39 +151,11 @@ fn filings_one_after_another() {
         let mut used = 0;
         for _ in 0..40 {
             let line = any_line(&mut random);
-            let (filed, after) = assert_file(&register, used, &line);
+            let (filed, after) = assert_file(&register, used, 1, &line);
             register = after;
             used = if filed.refusal == 0 { filed.used } else { used };
         }
     }
-}
-
-/// A line for a list of filings: mostly good, else refused, blank or long.
-fn any_line(random: &mut Generator) -> Vec<u8> {
-    match random.below(10) {
-        0 => Vec::new(),
-        1 => refused_line(random.within(1..=10)),
-        2 => {
-            let length = random.below(300);
-            random.digits(length)
-        }
-        3 if random.once_in(20) => random.digits(5_000),
-        4..7 => any_allowance_case(random).line(),
-        _ => any_case(random).line(),
-    }
-}
-
-/// A text of lines, the last with or without a newline.
-fn any_text(random: &mut Generator, lines: usize) -> Vec<u8> {
-    let mut text = Vec::new();
-    for _ in 0..lines {
-        text.extend(any_line(random));
-        text.push(b'\n');
-    }
-    if random.once_in(2) {
-        text.pop();
-    }
-    text
 }
 
 #[test]
@@ -207,7 +168,8 @@ fn texts_of_many_lines() {
         let register = random.bytes(room);
         let count = random.pick(&[0, lines / 2, lines, lines + 1, lines + 50]);
         let refusals = vec![0xEE; count];
-        let filed = assert_file_all(&register, &text, &refusals);
+        let first_number = any_first_number(&mut random);
+        let filed = assert_file_all(&register, first_number, &text, &refusals);
         assert!(filed.used <= register.len(), "round {round}");
         assert!(filed.register[filed.used..] == register[filed.used..]);
     }
@@ -221,9 +183,8 @@ fn texts_behind_a_used_part() {
     for _ in 0..1_000 {
         let there = random.below(6);
         let first = random.pick(&[1, 77, u32::MAX - 7, u32::MAX - 5]);
-        let mut register = sound_register(&mut random, there, first);
         let room = random.below(12) * LINE + random.below(LINE);
-        register.extend(random.bytes(room));
+        let mut register = register_with_room(&mut random, there, first, room);
         let used = there * LINE;
         if there > 0 && random.once_in(4) {
             let place = random.below(used);
@@ -232,7 +193,8 @@ fn texts_behind_a_used_part() {
         let used = random.pick(&[used, used, used, used + 1, used + LINE, usize::MAX]);
         let lines = random.below(15);
         let text = any_text(&mut random, lines);
-        assert_file_lines(&register, used, &text, &vec![0xEE; random.below(20)]);
+        let first_number = any_first_number(&mut random);
+        assert_file_lines(&register, used, first_number, &text, &vec![0xEE; random.below(20)]);
     }
 }
 
@@ -254,7 +216,7 @@ fn small_texts() {
     for text in texts {
         for count in 0..6 {
             for room in [0, 1, LINE - 1, LINE, LINE + 1, 2 * LINE - 1, 2 * LINE, 2 * LINE + 1] {
-                assert_file_all(&vec![0x5A; room], text, &vec![0xEE; count]);
+                assert_file_all(&vec![0x5A; room], 1, text, &vec![0xEE; count]);
             }
         }
     }
@@ -267,11 +229,11 @@ fn newlines_in_a_line_and_in_a_text() {
     let register = [0x5A; 3 * LINE];
     let two = [&good[..], b"\n", &good].concat();
     for line in [&[&good[..], b"\n"].concat(), &two] {
-        let (filed, after) = assert_file(&register, 0, line);
+        let (filed, after) = assert_file(&register, 0, 1, line);
         assert_eq!((filed.refusal, filed.used), (1, 0));
         assert!(after == register);
     }
-    let filed = assert_file_all(&register, &two, &[9; 2]);
+    let filed = assert_file_all(&register, 1, &two, &[9; 2]);
     assert_eq!((filed.used, filed.refusals), (2 * LINE, vec![0, 0]));
 }
 
@@ -282,7 +244,7 @@ fn texts_start_with_an_empty_register() {
     let text = [plain_case(&[1]).line(), b"\n".to_vec()].concat();
     for first in [1, 77, u32::MAX - 2] {
         let register = sound_register(&mut random, 3, first);
-        let filed = assert_file_all(&register, &text.repeat(2), &[9; 2]);
+        let filed = assert_file_all(&register, 1, &text.repeat(2), &[9; 2]);
         assert_eq!((filed.used, filed.refusals), (2 * LINE, vec![0, 0]));
         assert_eq!(&filed.register[..8], b"00000001");
     }
@@ -296,7 +258,7 @@ fn long_lines_in_texts() {
     text.extend_from_slice(&good);
     text.push(b'\n');
     text.extend(vec![b'x'; 1 << 20]);
-    let filed = assert_file_all(&[0; 500], &text, &[0xEE; 4]);
+    let filed = assert_file_all(&[0; 500], 1, &text, &[0xEE; 4]);
     assert_eq!((filed.used, filed.refusals), (LINE, vec![2, 0, 1, 0xEE]));
 }
 
@@ -317,7 +279,7 @@ fn filed_lines_are_found_again() {
             text.extend(case.line());
             text.extend(random.pick(&["\n", "\n\n", "\nbad\n"]).bytes());
         }
-        let filed = assert_file_all(&[0; 60 * LINE], &text, &[0; 200]);
+        let filed = assert_file_all(&[0; 60 * LINE], 1, &text, &[0; 200]);
         assert_eq!(filed.used, 50 * LINE);
         for (line, &member) in members.iter().enumerate() {
             let found = assert_find_number(&filed.register, filed.used, line as u32 + 1);
@@ -340,7 +302,7 @@ fn filed_lumps_are_not_used_allowance() {
     let mut random = Generator::for_test("filed_lumps_are_not_used_allowance");
     for _ in 0..50 {
         let text = [cut_line(&mut random), b"\n".to_vec()].concat().repeat(3);
-        let filed = assert_file_all(&[0; 3 * LINE], &text, &[9; 3]);
+        let filed = assert_file_all(&[0; 3 * LINE], 1, &text, &[9; 3]);
         assert_eq!((filed.used, filed.refusals), (3 * LINE, vec![0; 3]));
         let figures: Vec<&[u8]> = filed.register.chunks(LINE).map(|line| &line[8..]).collect();
         assert!(figures.iter().all(|line| *line == figures[0]));
@@ -352,7 +314,7 @@ fn filed_lumps_are_not_used_allowance() {
 fn a_full_register() {
     let mut random = Generator::for_test("a_full_register");
     let text = any_text(&mut random, 1_000);
-    let filed = assert_file_all(&vec![0; REGISTER_LENGTH], &text, &vec![0xEE; 1_100]);
+    let filed = assert_file_all(&vec![0; REGISTER_LENGTH], 1, &text, &vec![0xEE; 1_100]);
     assert_eq!(filed.used, REGISTER_LENGTH / LINE * LINE);
     assert!(filed.refusals.contains(&12));
 }

@@ -9,10 +9,12 @@
 /* The calls. With another prototype in the header these are errors. */
 static struct pension_quote (*const quote)(const uint8_t *, size_t) = pension_quote;
 static struct pension_checked (*const check)(const uint8_t *, size_t, size_t) = pension_check;
-static struct pension_filed (*const file)(uint8_t *, size_t, size_t, const uint8_t *, size_t) = pension_file;
-static struct pension_filed_lines (*const file_lines)(uint8_t *, size_t, size_t, const uint8_t *, size_t,
+static struct pension_filed (*const file)(uint8_t *, size_t, size_t, uint32_t, const uint8_t *,
+                                          size_t) = pension_file;
+static struct pension_filed_lines (*const file_lines)(uint8_t *, size_t, size_t, uint32_t, const uint8_t *, size_t,
                                                       uint8_t *, size_t) = pension_file_lines;
-static size_t (*const file_all)(uint8_t *, size_t, const uint8_t *, size_t, uint8_t *, size_t) = pension_file_all;
+static size_t (*const file_all)(uint8_t *, size_t, uint32_t, const uint8_t *, size_t, uint8_t *,
+                                size_t) = pension_file_all;
 static struct pension_found (*const find_number)(const uint8_t *, size_t, size_t, uint32_t) = pension_find_number;
 static struct pension_found_member (*const find_member)(const uint8_t *, size_t, size_t,
                                                         uint32_t) = pension_find_member;
@@ -32,8 +34,16 @@ static uint32_t (*const date_fault)(uint32_t, uint32_t, uint32_t) = pension_date
 #define ALL_USED "01995AEC"
 #define SOME_USED "00989680"
 #define SHORT_LINE "00"
-/* What the first case is filed as in an empty register, up to its zeros. */
-#define FILED_1 "000000010000000100F1BACB00F1BACB0024426C"
+/* What the first case is filed as, behind its number and up to its zeros. */
+#define FIGURES_1 "0000000100F1BACB00F1BACB0024426C"
+/* Quote numbers: 1, the default first numbers 202,300,001 and 202,400,001 with those
+ * after them, and the last. */
+#define NUMBER_1 "00000001"
+#define FIRST_OF_2023 "0C0EDA61"
+#define SECOND_OF_2023 "0C0EDA62"
+#define FIRST_OF_2024 "0C106101"
+#define SECOND_OF_2024 "0C106102"
+#define LAST_NUMBER "FFFFFFFF"
 
 enum { LINE = PENSION_LINE_LENGTH, ROOM = 3 * LINE, UNTOUCHED = 0xEE };
 
@@ -118,9 +128,15 @@ static struct pension_quote quote_of(const char *line)
     return quote((const uint8_t *)line, strlen(line));
 }
 
-static struct pension_filed filed(uint8_t *register_bytes, size_t used, const char *line)
+static struct pension_filed filed(uint8_t *register_bytes, size_t used, uint32_t first_number, const char *line)
 {
-    return file(register_bytes, ROOM, used, (const uint8_t *)line, strlen(line));
+    return file(register_bytes, ROOM, used, first_number, (const uint8_t *)line, strlen(line));
+}
+
+/* Whether a register line begins with these digits. */
+static int starts_with(const uint8_t *register_line, const char *digits)
+{
+    return memcmp(register_line, digits, strlen(digits)) == 0;
 }
 
 /* Whether `length` bytes are as memset wrote them. */
@@ -170,21 +186,46 @@ static void try_allowance(void)
 /* Files members 1, 2 and 1 again, which fills the register. */
 static void try_file(uint8_t *register_bytes)
 {
-    struct pension_filed first = filed(register_bytes, 0, MEMBER_1);
+    struct pension_filed first = filed(register_bytes, 0, 1, MEMBER_1);
     EXPECT(first.refusal == PENSION_GRANTED && first.used == LINE);
-    EXPECT(memcmp(register_bytes, FILED_1, strlen(FILED_1)) == 0);
+    EXPECT(starts_with(register_bytes, NUMBER_1 FIGURES_1));
     EXPECT(register_bytes[LINE - 1] == '\n');
 
-    struct pension_filed refused = filed(register_bytes, LINE, SHORT_LINE);
+    struct pension_filed refused = filed(register_bytes, LINE, 1, SHORT_LINE);
     EXPECT(refused.refusal == PENSION_BAD_LENGTH && refused.used == 0);
     EXPECT(is_untouched(register_bytes + LINE, ROOM - LINE));
 
-    struct pension_filed second = filed(register_bytes, LINE, MEMBER_2);
+    struct pension_filed second = filed(register_bytes, LINE, 1, MEMBER_2);
     EXPECT(second.refusal == PENSION_GRANTED && second.used == 2 * LINE);
-    struct pension_filed third = filed(register_bytes, 2 * LINE, MEMBER_1);
+    struct pension_filed third = filed(register_bytes, 2 * LINE, 1, MEMBER_1);
     EXPECT(third.refusal == PENSION_GRANTED && third.used == 3 * LINE);
-    struct pension_filed full = filed(register_bytes, 3 * LINE, MEMBER_3);
+    struct pension_filed full = filed(register_bytes, 3 * LINE, 1, MEMBER_3);
     EXPECT(full.refusal == PENSION_NO_SPACE && full.used == 0);
+}
+
+/* The default of the first granted case's year, which later first numbers and
+ * years leave alone, and the last number, behind which there is none. */
+static void try_first_numbers(void)
+{
+    uint8_t by_year[ROOM], last[ROOM];
+    memset(by_year, UNTOUCHED, sizeof by_year);
+    memset(last, UNTOUCHED, sizeof last);
+
+    EXPECT(filed(by_year, 0, 77, SHORT_LINE).refusal == PENSION_BAD_LENGTH);
+    EXPECT(is_untouched(by_year, ROOM));
+    EXPECT(filed(by_year, 0, 0, MEMBER_1).used == LINE);
+    EXPECT(starts_with(by_year, FIRST_OF_2023 FIGURES_1));
+    EXPECT(filed(by_year, LINE, UINT32_MAX, MEMBER_4).used == 2 * LINE);
+    EXPECT(starts_with(by_year + LINE, SECOND_OF_2023));
+    EXPECT(find_number(by_year, ROOM, 2 * LINE, 202300002).offset == LINE);
+    EXPECT(find_number(by_year, ROOM, 2 * LINE, 1).refusal == PENSION_ABSENT);
+
+    EXPECT(filed(last, 0, UINT32_MAX, MEMBER_1).used == LINE);
+    EXPECT(starts_with(last, LAST_NUMBER FIGURES_1));
+    struct pension_filed none_left = filed(last, LINE, 1, MEMBER_1);
+    EXPECT(none_left.refusal == PENSION_NO_NUMBER && none_left.used == 0);
+    EXPECT(is_untouched(last + LINE, ROOM - LINE));
+    EXPECT(check(last, ROOM, LINE).refusal == PENSION_GRANTED);
 }
 
 static void try_find(const uint8_t *register_bytes)
@@ -237,23 +278,44 @@ static void try_texts(void)
     memset(one_by_one, UNTOUCHED, sizeof one_by_one);
     memset(together, UNTOUCHED, sizeof together);
     memset(refusals, UNTOUCHED, sizeof refusals);
-    filed(one_by_one, 0, MEMBER_2);
-    filed(one_by_one, LINE, MEMBER_1);
+    filed(one_by_one, 0, 1, MEMBER_2);
+    filed(one_by_one, LINE, 1, MEMBER_1);
 
-    size_t used = file_all(together, ROOM, lines, strlen(text), refusals, sizeof refusals);
+    size_t used = file_all(together, ROOM, 1, lines, strlen(text), refusals, sizeof refusals);
     EXPECT(used == 2 * LINE && memcmp(together, one_by_one, ROOM) == 0);
     EXPECT(refusals[0] == PENSION_GRANTED && refusals[1] == PENSION_BAD_LENGTH);
     EXPECT(refusals[2] == PENSION_GRANTED && refusals[3] == UNTOUCHED);
 
     memset(refusals, UNTOUCHED, sizeof refusals);
     memset(together + LINE, UNTOUCHED, ROOM - LINE);
-    struct pension_filed_lines more = file_lines(together, ROOM, LINE, lines, strlen(text), refusals, 2);
+    struct pension_filed_lines more = file_lines(together, ROOM, LINE, 77, lines, strlen(text), refusals, 2);
     EXPECT(more.used == 3 * LINE && more.lines == 3);
+    EXPECT(starts_with(together + 2 * LINE, "00000003"));
     EXPECT(refusals[0] == PENSION_GRANTED && refusals[1] == PENSION_BAD_LENGTH);
     EXPECT(refusals[2] == UNTOUCHED && refusals[3] == UNTOUCHED);
     EXPECT(check(together, ROOM, more.used).refusal == PENSION_GRANTED);
     struct pension_found_member found = find_member(together, ROOM, more.used, 2);
     EXPECT(found.offset == LINE && found.compared == 2);
+}
+
+/* The same first number for every line of a text: the first that is granted sets
+ * it, here of 2024, and a case of 2023 goes on from there. */
+static void try_first_numbers_of_texts(void)
+{
+    static const char text[] = SHORT_LINE "\n" MEMBER_4 "\n" MEMBER_1 "\n";
+    const uint8_t *lines = (const uint8_t *)text;
+    uint8_t at_once[ROOM], behind_none[ROOM];
+    memset(at_once, UNTOUCHED, sizeof at_once);
+    memset(behind_none, UNTOUCHED, sizeof behind_none);
+
+    EXPECT(file_all(at_once, ROOM, 0, lines, strlen(text), NULL, 0) == 2 * LINE);
+    EXPECT(starts_with(at_once, FIRST_OF_2024) && starts_with(at_once + LINE, SECOND_OF_2024));
+    EXPECT(file_lines(behind_none, ROOM, 0, 0, lines, strlen(text), NULL, 0).used == 2 * LINE);
+    EXPECT(memcmp(at_once, behind_none, ROOM) == 0);
+
+    EXPECT(file_all(at_once, ROOM, UINT32_MAX, lines, strlen(text), NULL, 0) == LINE);
+    EXPECT(starts_with(at_once, LAST_NUMBER));
+    EXPECT(memcmp(at_once + LINE, behind_none + LINE, ROOM - LINE) == 0);
 }
 
 /* Examples 1 and 2 of document 004, the most that can be paid, a sum that ends in
@@ -325,9 +387,11 @@ int main(void)
     try_quote();
     try_allowance();
     try_file(register_bytes);
+    try_first_numbers();
     try_find(register_bytes);
     try_check(register_bytes);
     try_texts();
+    try_first_numbers_of_texts();
     try_trivial_commutation();
     try_date_fault();
     return failures != 0;

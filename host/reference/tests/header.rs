@@ -157,6 +157,7 @@ fn the_calls_that_are_timed() {
             "struct pension_found pension_find_member",
         ),
         ("size_t used, uint32_t member", "size_t used, uint64_t member"),
+        ("uint32_t first_number", "uint64_t first_number"),
         ("size_t compared;", "uint32_t compared;"),
         ("size_t compared;", "size_t compared, checked;"),
         ("struct pension_checked {", "struct pension_checked { uint64_t lines;"),

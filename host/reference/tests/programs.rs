@@ -9,10 +9,11 @@ use std::process::{Command, Stdio};
 use std::thread;
 
 use cases::allowances::{any_allowance_case, USED};
-use cases::fields::{plain_case, refused_line};
+use cases::fields::{case_of_year, plain_case, refused_line};
 use cases::generator::Generator;
 use cases::random::any_case;
 use cases::registers::LINE;
+use common::book::numbers_of;
 use common::conversation::Conversation;
 use reference::calendar::Date;
 use reference::case_line::{characters, MOST_CHARACTERS};
@@ -147,6 +148,21 @@ fn two_thousand_mixed_lines() {
     }
     let printed = assert_printed(&input);
     assert!(printed.windows(4).any(|line| line == b"R12\n"));
+}
+
+/// The program gives the first number 1: its lines are numbered from 1, whatever
+/// year the cases commence in.
+#[test]
+fn numbers_from_1_in_every_year() {
+    let line_of = |year| [case_of_year(year).line(), b"\n".to_vec()].concat();
+    let every_year: Vec<u8> = (1918..=2199).flat_map(line_of).collect();
+    let numbers: Vec<u32> = (1..=282).collect();
+    assert_eq!(numbers_of(&assert_printed(&every_year)), numbers);
+    for year in [1918, 1999, 2024, 2199] {
+        let printed = assert_printed(&[b"00\n", &line_of(year)[..], &line_of(2023)].concat());
+        assert_eq!(printed[..REFUSAL], *b"R02\n");
+        assert_eq!(numbers_of(&printed[REFUSAL..]), [1, 2]);
+    }
 }
 
 /// Lines that end with a used amount, on the day before the allowance's first

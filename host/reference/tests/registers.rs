@@ -22,7 +22,7 @@ fn assert_calls(register: &[u8], used: usize, numbers: &[u32], members: &[u32]) 
     for &member in members {
         assert_find_member(register, used, member);
     }
-    assert_file(register, used, &plain_case(&[1, 3]).line());
+    assert_file(register, used, 1, &plain_case(&[1, 3]).line());
 }
 
 /// The numbers around those of a register that starts with `first`.

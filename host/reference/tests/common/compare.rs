@@ -14,14 +14,19 @@ use super::guarded::{lend, lend_mut};
 struct Input<'a> {
     register: &'a [u8],
     used: usize,
+    /// Given to a filing only.
+    first_number: Option<u32>,
     text: &'a [u8],
 }
 
 impl Drop for Input<'_> {
     fn drop(&mut self) {
         if thread::panicking() {
-            let Input { register, used, text } = self;
+            let Input { register, used, first_number, text } = self;
             eprintln!("text: {}", beginning(text));
+            if let Some(number) = first_number {
+                eprintln!("first number {number} ({number:08X})");
+            }
             eprintln!("used {used} of {} bytes: {}", register.len(), beginning(register));
         }
     }
@@ -34,7 +39,7 @@ fn beginning(bytes: &[u8]) -> String {
 
 /// Quotes a line with both and gives the quote they agree on.
 pub fn assert_quote(line: &[u8]) -> Quote {
-    let _input = Input { register: &[], used: 0, text: line };
+    let _input = Input { register: &[], used: 0, first_number: None, text: line };
     let quoted = lend(line, engine::quote);
     assert_eq!(quoted, answers::quote(line));
     quoted
@@ -49,7 +54,7 @@ pub fn assert_refusal(case: &CaseFields, refusal: u32) {
 
 /// Checks a register with both and gives what they agree on.
 pub fn assert_check(register: &[u8], used: usize) -> Checked {
-    let _input = Input { register, used, text: &[] };
+    let _input = Input { register, used, first_number: None, text: &[] };
     let checked = lend(register, |register| engine::check(register, used));
     assert_eq!(checked, answers::check(register, used));
     checked
@@ -57,7 +62,7 @@ pub fn assert_check(register: &[u8], used: usize) -> Checked {
 
 /// Finds a number with both and gives what they agree on.
 pub fn assert_find_number(register: &[u8], used: usize, number: u32) -> Found {
-    let _input = Input { register, used, text: &[] };
+    let _input = Input { register, used, first_number: None, text: &[] };
     let found = lend(register, |register| engine::find_number(register, used, number));
     assert_eq!(found, answers::find_number(register, used, number), "number {number:08X}");
     found
@@ -67,7 +72,7 @@ pub fn assert_find_number(register: &[u8], used: usize, number: u32) -> Found {
 /// too that length and count are what the rules give for such a refusal and
 /// offset.
 pub fn assert_find_member(register: &[u8], used: usize, member: u32) -> FoundMember {
-    let _input = Input { register, used, text: &[] };
+    let _input = Input { register, used, first_number: None, text: &[] };
     let found = lend(register, |register| engine::find_member(register, used, member));
     assert_eq!(found, answers::find_member(register, used, member), "member {member:08X}");
     assert_eq!(found, figures_by_rule(&found, used / LINE), "member {member:08X}");
@@ -108,12 +113,18 @@ pub fn assert_date_fault(year: u32, month: u32, day: u32) -> u32 {
 /// Files a line with both, starting from the same bytes. Asserts that both
 /// leave the same bytes, and that none but those of a new line is written.
 /// Gives the result and the register afterwards.
-pub fn assert_file(register: &[u8], used: usize, line: &[u8]) -> (Filed, Vec<u8>) {
-    let _input = Input { register, used, text: line };
-    let (filed, after) =
-        lend_mut(register, |register| lend(line, |line| engine::file(register, used, line)));
+pub fn assert_file(
+    register: &[u8],
+    used: usize,
+    first_number: u32,
+    line: &[u8],
+) -> (Filed, Vec<u8>) {
+    let _input = Input { register, used, first_number: Some(first_number), text: line };
+    let (filed, after) = lend_mut(register, |register| {
+        lend(line, |line| engine::file(register, used, first_number, line))
+    });
     let mut expected_after = register.to_vec();
-    assert_eq!(filed, answers::file(&mut expected_after, used, line));
+    assert_eq!(filed, answers::file(&mut expected_after, used, first_number, line));
     assert!(after == expected_after, "bytes differ: {}", after.escape_ascii());
     let written = if filed.refusal == 0 { used..filed.used } else { 0..0 };
     assert!(after[..written.start] == register[..written.start], "a byte before was written");
@@ -137,29 +148,45 @@ impl FiledAll {
 }
 
 /// Files all lines of a text into an empty register with the engine, by both
-/// calls that do so, and, one by one, with the reference, and gives what they
-/// agree on.
-pub fn assert_file_all(register: &[u8], text: &[u8], refusals: &[u8]) -> FiledAll {
-    let _input = Input { register, used: 0, text };
+/// calls that do so, and with the reference, at once and one by one, and gives
+/// what they agree on.
+pub fn assert_file_all(
+    register: &[u8],
+    first_number: u32,
+    text: &[u8],
+    refusals: &[u8],
+) -> FiledAll {
+    let _input = Input { register, used: 0, first_number: Some(first_number), text };
     let ((used, refusals_after), register_after) = lend_mut(register, |register| {
-        lend(text, |text| lend_mut(refusals, |refusals| engine::file_all(register, text, refusals)))
+        lend(text, |text| {
+            lend_mut(refusals, |refusals| engine::file_all(register, first_number, text, refusals))
+        })
     });
     let filed = FiledAll { used, register: register_after, refusals: refusals_after };
-    filed.assert_same(&assert_file_lines(register, 0, text, refusals));
+    filed.assert_same(&assert_file_lines(register, 0, first_number, text, refusals));
+    filed.assert_same(&file_at_once(register, first_number, text, refusals));
     filed
 }
 
 /// Files the lines of a text behind the used part of a register with the
 /// engine and, one by one, with the reference, and gives what they agree on.
-pub fn assert_file_lines(register: &[u8], used: usize, text: &[u8], refusals: &[u8]) -> FiledAll {
-    let _input = Input { register, used, text };
+pub fn assert_file_lines(
+    register: &[u8],
+    used: usize,
+    first_number: u32,
+    text: &[u8],
+    refusals: &[u8],
+) -> FiledAll {
+    let _input = Input { register, used, first_number: Some(first_number), text };
     let ((answer, refusals_after), register_after) = lend_mut(register, |register| {
         lend(text, |text| {
-            lend_mut(refusals, |refusals| engine::file_lines(register, used, text, refusals))
+            lend_mut(refusals, |refusals| {
+                engine::file_lines(register, used, first_number, text, refusals)
+            })
         })
     });
     let filed = FiledAll { used: answer.used, register: register_after, refusals: refusals_after };
-    filed.assert_same(&file_one_by_one(register, used, text, refusals));
+    filed.assert_same(&file_one_by_one(register, used, first_number, text, refusals));
     assert_eq!(answer.lines, lines_of(text).len());
     filed
 }
@@ -173,11 +200,25 @@ fn lines_of(text: &[u8]) -> Vec<&[u8]> {
     lines
 }
 
+/// Files all lines of a text with the reference, by one call.
+fn file_at_once(register: &[u8], first_number: u32, text: &[u8], refusals: &[u8]) -> FiledAll {
+    let (mut register, mut refusals) = (register.to_vec(), refusals.to_vec());
+    let used = reference::register::file_all(&mut register, first_number, text, &mut refusals);
+    FiledAll { used, register, refusals }
+}
+
 /// Files each line of a text with the reference, by a call of its own.
-fn file_one_by_one(register: &[u8], used: usize, text: &[u8], refusals: &[u8]) -> FiledAll {
+fn file_one_by_one(
+    register: &[u8],
+    used: usize,
+    first_number: u32,
+    text: &[u8],
+    refusals: &[u8],
+) -> FiledAll {
     let mut all = FiledAll { used, register: register.to_vec(), refusals: refusals.to_vec() };
     for (place, line) in lines_of(text).into_iter().enumerate() {
-        let refusal = match reference::register::file(&mut all.register, all.used, line) {
+        let filed = reference::register::file(&mut all.register, all.used, first_number, line);
+        let refusal = match filed {
             Ok(used) => {
                 all.used = used;
                 0

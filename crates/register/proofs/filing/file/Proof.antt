@@ -1,7 +1,7 @@
 -- `file` is the definition `fileStep`: by the case's refusal, else by what `enter` ensures of the register that was gone along.
 use mathlib.Core.Path.{sym, _∙_}
 use borrow.Author.Needs.{needs}
-use Rattle.register.proofs.FileLoop.{quote-says, quote-whole, scan-known, case-refused}
+use Rattle.register.proofs.FileLoop.{quote-says, scan-known, case-refused}
 use Rattle.register.proofs.filing.file.Statement.{statement}
 use Rattle.register.proofs.filing.file.Tie as tie
 
@@ -12,13 +12,12 @@ returns c =
 
 enter-requires : tie.Need-enter-requires
 enter-requires c κs =
-    (scan-known (c .before .scan .ensures), quote-whole _ _ (c .before .before .before .before .before .quote .ensures))
+    let e = c .before .before .before in
+    let quoted = e .before .before .quote .ensures in
+    (scan-known (c .before .scan .ensures), sym (quote-says _ _ quoted) ∙ e .if1 .left, quoted)
 
 returns-2 : tie.Need-returns-2
-returns-2 c =
-    let e = c .before .before .before .before .before .before in
-    c .before .before .enter .ensures _ (sym (quote-says _ _ (e .before .before .quote .ensures)) ∙ e .if1 .left)
-    (e .before .before .quote .ensures)
+returns-2 c = c .before .before .enter .ensures
 
 pub file-spec : {M : Type 1} → statement M
 file-spec =

@@ -10,31 +10,30 @@ use Rattle.register.specs.declared.checking.Scanned.{Scanned}
 use Rattle.register.specs.Layout.{lent}
 use Rattle.register.specs.Check.{following}
 use Rattle.register.proofs.TextLaws.{refusals-next, refusals-past}
-use Rattle.register.proofs.FileLaws.{number-fits}
 use Rattle.register.proofs.FileLoop.{scan-known, granted-low, granted-next, refused-next, Passed, passed-none, passed-size, passed-all, passed-next}
 use Rattle.register.proofs.filing.file_lines.Statement.{statement}
 use Rattle.register.proofs.filing.file_lines.Tie as tie
 
 abbrev Inv-loop : tie.InvT-loop
-Inv-loop register₀ used lines refusals₀ known₀ filled₀ count₀ at₀ register refusals known filled count at =
+Inv-loop register₀ used first lines refusals₀ known₀ filled₀ count₀ at₀ register refusals known filled count at =
     (at ≤ length lines + 1) × (count ≤ at) × (length register ≡ length register₀)
-    × Passed (lent register₀ used) lines refusals₀ register refusals known filled count at
+    × Passed (lent register₀ used) first lines refusals₀ register refusals known filled count at
 
 abbrev μ-loop : tie.MeasureT-loop
-μ-loop register₀ used lines refusals₀ known₀ filled₀ count₀ at₀ register refusals known filled count at = length lines - at
+μ-loop register₀ used first lines refusals₀ known₀ filled₀ count₀ at₀ register refusals known filled count at = length lines - at
 
 loop-holds : tie.Need-loop-holds Inv-loop μ-loop
-loop-holds c = (omega arith, omega arith, refl, passed-none _ _ _ _ (scan-known (c .scan .ensures)))
+loop-holds c = (omega arith, omega arith, refl, passed-none _ _ _ _ _ (scan-known (c .scan .ensures)))
 
 file-known-requires : tie.Need-file-known-requires Inv-loop μ-loop
 file-known-requires c κs = c .before .before .before .before .loop .inv .3 .known
 
 following-number-requires : tie.Need-following-number-requires Inv-loop μ-loop
 following-number-requires c κs =
-    let l = c .before .before .before .before .before .before .before .before .before .before .before .loop in
-    let filed = c .before .before .before .before .before .before .file-known in
-    let low = granted-low _ _ _ (l .inv .3 .known) (filed .result) (filed .ensures .0) (c .before .if2 .taken) in
-    omega (arith, c .number-given .ensures, number-fits (l .known .next) 8589934592 (omega arith) low)
+    let l = c .before .before .before .before .before .before .before .before .before .before .before .before .loop in
+    let filed = c .before .before .before .before .before .before .before .file-known in
+    let low = granted-low _ _ _ (l .inv .3 .known) (filed .result) (filed .ensures .0) (c .before .before .if2 .taken) in
+    omega (arith, c .number-given .ensures, low)
 
 loop-again : tie.Need-loop-again Inv-loop μ-loop
 loop-again c =
@@ -48,9 +47,9 @@ loop-again c =
       passed-next p (cut .result) (c .before .before .before .before .before .before .before .before .before .loop-test .taken) (cut .ensures) _ _ _ _ _ (filed .ensures .1)
           (⊎-elim
           (λ w.
-          granted-next _ _ _ (p .known) (filed .result) (filed .ensures .0) _ _ (w .0 .taken) (w .4)
-          (ap (λ (k : Scanned). k .refusal) (w .3))
-          (ap (λ (k : Scanned). k .next) (w .3) ∙ w .2 .ensures ∙ ap following (w .1 .ensures)))
+          granted-next _ _ _ (p .known) (filed .result) (filed .ensures .0) _ _ (w .0 .taken) (w .5)
+          (ap (λ (k : Scanned). k .refusal) (w .4))
+          (ap (λ (k : Scanned). k .next) (w .4) ∙ w .3 .ensures ∙ ap following (w .2 .ensures)))
           (λ w. refused-next _ _ _ (p .known) (filed .result) (filed .ensures .0) _ _ (w .0 .left) (w .2) (w .1))
           (c .if2 .came))
           (⊎-elim
@@ -72,5 +71,5 @@ pub file-lines-spec : {M : Type 1} → statement M
 file-lines-spec =
     tie.close
     (tie.spec Inv-loop μ-loop (λ c. omega arith) loop-holds (λ c. omega arith) (λ c. omega arith) (λ c. omega arith) (λ c. omega arith)
-    file-known-requires (λ c. omega arith) (λ c. omega arith) following-number-requires (λ c. omega arith) (λ c. omega arith) (λ c. omega arith) loop-again
-    (λ c. omega arith) same-length-2 returns)
+    file-known-requires (λ c. omega arith) (λ c. omega arith) (λ c. omega arith) (λ c. omega arith) (λ c. omega arith)
+    following-number-requires (λ c. omega arith) (λ c. omega arith) (λ c. omega arith) loop-again (λ c. omega arith) same-length-2 returns)
