@@ -49,7 +49,9 @@
  * run at the same time in any number of threads, as long as no other call
  * touches a buffer while one writes it. The stack it needs is a few kilobytes.
  *
- * Money is in whole pence.
+ * Money is in whole pence. The age, service and early payment period of a case
+ * are in complete months: a month is complete on the day of the month on which it
+ * began, and on the last day of a month that is too short to have it.
  */
 #ifndef PENSION_H
 #define PENSION_H

@@ -1,16 +1,17 @@
 -- Laws of dates: what the crates above cite instead of the definitions' text, and what the calendar's code does instead of
 -- their tests. `earlier` is a strict order, and that of one number made of a date; the bounds of a date of the calendar; a month
--- has the days that it has in every year, or a 29 February; the fault is 0 exactly in the calendar; months to the 60th birthday
--- never pass a bound that the age gives, and it is not past while the age is below 720 months. Assumes nothing.
+-- has the days that it has in every year, or a 29 February, and none after one that is at or past its length; the fault is 0 exactly
+-- in the calendar; months to the 60th birthday never pass a bound that the age gives, and it is not past while the age is below 720
+-- months. Assumes nothing.
 use mathlib.Core.Path.{_≡_, refl, sym, _∙_}
-use mathlib.Core.Bool.{Bool, true, false, cond, _&&_, _||_, or-true, and-false, true≢false, false≢true}
+use mathlib.Core.Bool.{Bool, true, false, cond, not, _&&_, _||_, or-true, and-false, true≢false, false≢true}
 use mathlib.Core.Logic.{_⊎_, inl, inr, ⊎-elim}
 use Prim.Native.Nat.{ℕ, _+_, _-_, _*_, _≤_, _<_}
 use native.Mathlib.Nat.{sub-zero, le-of-lt, mul-le-mul-right}
 use native.Mathlib.Decide.{decLt}
 use native.Mathlib.Omega.{arith}
 use lib.Dec.{leb, ltb, eqb}
-use borrow.Author.Tests.{ltb-true, eqb-true, leb-true, lt-ltb, le-ltb, le-leb, eq-eqb, ne-eqb}
+use borrow.Author.Tests.{ltb-true, eqb-true, leb-true, lt-ltb, le-ltb, le-leb, lt-leb, eq-eqb, ne-eqb}
 use Rattle.calendar.specs.declared.Date.{Date}
 use Rattle.calendar.specs.Tests.{within}
 use Rattle.calendar.proofs.TestsLaws.{and-left, and-right, not-true-false, by-test, within-bounds, lowest-any}
@@ -84,14 +85,15 @@ earlier-numbers a b p q r s =
     by-scaled 65536 (a .year) (b .year) _ _ (omega arith) (omega arith)
     ∙ rw (by-scaled 256 (a .month) (b .month) (a .day) (b .day) q s)
 
+-- a month that is not complete takes off one, and no more
+pub at-most-one : (t : Bool) → cond t 1 0 ≤ 1
+at-most-one true = omega arith
+at-most-one false = omega arith
+
 -- a month count is at least the difference of the month indices less one
 months-at-least : (a b : Date) → monthIndex b ≤ monthIndex a + months a b + 1
 unfolding months
-months-at-least a b = omega (arith, one (incomplete a b))
-  where
-    one : (t : Bool) → cond t 1 0 ≤ 1
-    one true = omega arith
-    one false = omega arith
+months-at-least a b = omega (arith, at-most-one (incomplete a b))
 
 -- whole where the day is reached
 months-whole : (a b : Date) → a .day ≤ b .day → months a b ≡ monthIndex b - monthIndex a
@@ -148,6 +150,15 @@ length-by-year y m = go (monthIn m) (eqb m 2) (leap y) (thirty m) refl
     go true true false t e = (omega arith, inl refl)
     go true true true t e = (omega arith, inr (eqb-true m 2 e, refl, refl))
 
+-- February has at most 29
+pub february-length : (y : ℕ) → monthLength y 2 ≤ 29
+unfolding monthIn monthLength
+february-length y = go (leap y)
+  where
+    go : (l : Bool) → cond l 29 28 ≤ 29
+    go true = omega arith
+    go false = omega arith
+
 -- a day of a month is one of the 31, and the month one of the twelve
 day-of-month : (m d : ℕ) → 1 ≤ d → d ≤ monthLength 1901 m → dayIn d ≡ true
 unfolding dayIn
@@ -184,6 +195,18 @@ no-day y m d past leap =
     ⊎-elim (λ e. omega arith)
     (λ e. true≢false (simp (eq-eqb m 2 (e .0), eq-eqb d 29 (omega arith)) at leap))
     (length-by-year y m .1))
+
+-- a month has no day after one that is at or past its length
+pub day-after : (y m d : ℕ) → not (lengthIn y m (d + 1)) ≡ leb (monthLength y m) d
+unfolding lengthIn
+day-after y m d = go (monthLength y m)
+  where
+    go : (days : ℕ) → not (leb (d + 1) days) ≡ leb days d
+    go days =
+        elim (decLt d days) [
+          | yes h ↦ simp (le-leb (d + 1) days (omega arith), lt-leb days d h)
+          | no h ↦ simp (lt-leb (d + 1) days (omega arith), le-leb days d (omega arith))
+        ]
 
 -- a date that every year has is in the calendar
 pub common-in : (d : Date) → commonDate d ≡ true → inCalendar d ≡ true

@@ -1,6 +1,7 @@
 -- Dates of document 01: in the calendar ("Case line"), their order ("Refusals from the input", 4) and months from one to another
--- ("Months and factors"); and, by request [4] of document 02, which test of the calendar a date breaks first. Every definition is
--- total: it has a value at any triple of numbers, whether or not that is a date. Assumes nothing.
+-- ("Months and factors", with the complete months of request [6] of document 02); and, by request [4], which test of the calendar a
+-- date breaks first. Every definition is total: it has a value at any triple of numbers, whether or not that is a date. Assumes
+-- nothing.
 use Prim.Native.Nat.{ℕ, _+_, _-_, _*_, _%_, _≤_, _<_}
 use mathlib.Core.Path.{_≡_}
 use mathlib.Core.Logic.{_↔_, _⊎_}
@@ -94,14 +95,37 @@ earlier a b =
 unfoldable pub monthIndex : Date → ℕ
 monthIndex d = 12 * d .year + d .month
 
--- the last month from a to b is not complete: b's day is below a's
+-- "the last day of its month": the day is at or past the month's length, so that a 60th birthday on 29 February of a common year
+-- counts too
+unfoldable pub lastDay : Date → Bool
+lastDay d = leb (monthLength (d .year) (d .month)) (d .day)
+
+-- the last month from a to b is not complete: b's day is below a's, and b is not the last day of its month (request [6])
 unfoldable pub incomplete : Date → Date → Bool
-incomplete a b = ltb (b .day) (a .day)
+incomplete a b = ltb (b .day) (a .day) && not (lastDay b)
 
 -- "Months from a to b": 12 times the difference of years plus the difference of months, less one if the last is not
 -- complete; 0 where that would be below 0, which dates of the calendar give only where b is before a
 unfoldable pub months : Date → Date → ℕ
 months a b = monthIndex b - monthIndex a - cond (incomplete a b) 1 0
+
+-- What is claimed of every count n of months from a to b (theorem `months-claim`), with "complete" written out: before the last day of
+-- b's month it is document 01's own count, from that day on the whole difference; so it is never below document 01's and at most
+-- one above.
+
+-- "12 times the difference of years plus the difference of months"
+abbrev pub monthDifference : Date → Date → ℕ
+monthDifference a b = (12 * b .year + b .month) - (12 * a .year + a .month)
+
+-- document 01's own count: "less one if b's day is below a's"
+abbrev pub monthsByDay : Date → Date → ℕ
+monthsByDay a b = monthDifference a b - cond (ltb (b .day) (a .day)) 1 0
+
+pub record MonthsClaim (a b : Date) (n : ℕ) : Type 0 where
+  pub before-last-day : b .day < monthLength (b .year) (b .month) → n ≡ monthsByDay a b
+  pub on-last-day : monthLength (b .year) (b .month) ≤ b .day → n ≡ monthDifference a b
+  pub never-below : monthsByDay a b ≤ n
+  pub one-above : n ≤ monthsByDay a b + 1
 
 -- the 60th birthday: birth day and month, birth year + 60, in the calendar or not
 unfoldable pub sixtiethBirthday : Date → Date

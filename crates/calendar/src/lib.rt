@@ -1,7 +1,7 @@
 // Dates: whether they are in the calendar and what is wrong with them if not, their order, and the months between them.
 ghost use mathlib.Core.Path.{_≡_};
 ghost use Prim.Native.Nat.{_+_, _*_, _≤_};
-ghost use Rattle.calendar.specs.Calendar.{date, leap, monthLength, lengthIn, dateFault, inCalendar, commonDate, earlier, incomplete, months, sixtiethBirthday};
+ghost use Rattle.calendar.specs.Calendar.{date, leap, monthLength, lengthIn, dateFault, inCalendar, commonDate, earlier, lastDay, incomplete, months, sixtiethBirthday};
 
 // The years of the calendar.
 const FIRST_YEAR: u32 = 1900;
@@ -121,12 +121,20 @@ fn month_index(year: u32, month: u8) -> u32
     12 * year + month as u32
 }
 
+// Whether the date of these numbers is the last day of its month, or past it: the month has no day after it.
+fn is_last_day(year: u32, month: u8, day: u8) -> bool
+    ensures { λ r. ⌜ r ≡ lastDay (date year month day) ⌝ }
+{
+    !has_day(year, month as u32, day as u32 + 1)
+}
+
 // Whether the last month from a to a later date is not complete. The later date comes as plain numbers, since the year of
 // a 60th birthday may pass those of a Date.
 fn is_incomplete(a: Date, year: u32, month: u8, day: u8) -> bool
     ensures { λ r. ⌜ r ≡ incomplete a (date year month day) ⌝ }
 {
-    day < a.day
+    let below = day < a.day;
+    below & !is_last_day(year, month, day)
 }
 
 // Whole months from a to the date of these numbers, of which the year is at most 60 past the years of a Date.

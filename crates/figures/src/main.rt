@@ -1,5 +1,5 @@
-// Worked examples of the source documents and of the allowance, run through the engine, with what each document prints, or
-// the rule gives, beside them.
+// Worked examples of the source documents and of the allowance, and refusals, run through the engine, with what each document
+// prints, or the rule gives, beside them.
 use calendar::Date;
 use factors::money::YearlyPence;
 use libc::STDOUT_FILENO;
@@ -127,6 +127,24 @@ fn refusals() {
     text(b" (office: 9)\n");
 }
 
+// A month is complete on the last day of the later date's month too: on 28 February of a common year one born on a 29 February is a
+// month older than by the day alone, which takes a refusal away or brings one.
+fn month_ends() {
+    text(b"Kind 3 from 28 February 2023, born on 29 February 1968: ");
+    refusal(b"0000000B07B0021D07E7021C0103000DBBA007DF040107E7021C000000000000000000");
+    text(b" (660 months: passes)\nKind 2 on the same dates: ");
+    refusal(b"0000000B07B0021D07E7021C01020030D40007C6040107E40401000A4408E8036803E8");
+    text(b" (660 months: 8)\nF1 0 from 28 February 2025, born on 29 February 1972: ");
+    refusal(b"0000000C07B4021D07E9021C0101002DC6C007CB040107E9021C000000000000000000");
+    text(b" (636 months: passes)\nF1 0 from 28 February 2025, born on 29 February 1952: ");
+    refusal(b"0000000D07A0021D07E9021C0101002DC6C007B7040107D50401000000000000000000");
+    text(b" (876 months: 9)\nFrom 28 February 2022, born on 29 February 2004: ");
+    refusal(b"0000000E07D4021D07E6021C0101002DC6C007E6010107E6021C0009C4000000000000");
+    text(b" (216 months: passes)\nFrom 28 February 2100, born on 29 February 2000: ");
+    refusal(b"0000000F07D0021D0834021C0101002DC6C007E40401080204010009C4000000000000");
+    text(b" (1,200 months: 5)\n");
+}
+
 fn totals() {
     text(b"Pensions of 50,000,000 together: ");
     refusal(
@@ -146,5 +164,6 @@ fn main() {
     allowance();
     small_pensions();
     refusals();
+    month_ends();
     totals();
 }

@@ -1,7 +1,7 @@
 -- The office's figures and those of the allowance hold, as one list: antt computes every row. Assumes nothing.
 use mathlib.Core.Path.{_≡_, refl}
 use mathlib.Core.Bool.{true}
-use Rattle.calendar.specs.Calendar.{earlier, months, monthIndex, incomplete, sixtiethBirthday}
+use Rattle.calendar.specs.Calendar.{monthIn, leap, thirty, monthLength, earlier, monthIndex, lastDay, incomplete, months, sixtiethBirthday}
 use Rattle.calendar.specs.Figure.{hold}
 use Rattle.factors.specs.Commutation.{table1, straightLine, yearValues, commutationFactor}
 use Rattle.factors.specs.EarlyPayment.{tableA, earlyPaymentFactor, reducedPension}
@@ -18,5 +18,5 @@ use Rattle.split.specs.Quote.{remainingOf, secondOf, shareOf, lumpsGrant
 use Rattle.split.specs.Figures.{figures}
 
 pub figures-hold : hold figures ≡ true
-unfolding hexValue digitAt numberAt dateAt hexCharacter hexText headAt headOf allowanceUsedAt earlier months monthIndex incomplete sixtiethBirthday table1 straightLine yearValues commutationFactor tableA earlyPaymentFactor reducedPension lumpTop lumpBottom effectiveFactor tableFigures ageOf workedPension workedTerms factorOf limitedLump quarterLump capOf benefitOf allowanceOf allowed afterLump priceOf cheapest most turns grant remainingOf secondOf shareOf lumpsGranted figures
+unfolding hexValue digitAt numberAt dateAt hexCharacter hexText headAt headOf allowanceUsedAt monthIn leap thirty monthLength earlier monthIndex lastDay incomplete months sixtiethBirthday table1 straightLine yearValues commutationFactor tableA earlyPaymentFactor reducedPension lumpTop lumpBottom effectiveFactor tableFigures ageOf workedPension workedTerms factorOf limitedLump quarterLump capOf benefitOf allowanceOf allowed afterLump priceOf cheapest most turns grant remainingOf secondOf shareOf lumpsGranted figures
 figures-hold = refl

@@ -199,23 +199,28 @@ pub fn refused_line(refusal: u32) -> Vec<u8> {
     case.line()
 }
 
-/// All dates that are a count of complete months after a date, in order.
+/// All dates that are a count of complete months after a date, in order: from the
+/// day on which the last of them is complete to the day before the next is.
 pub fn dates_after(date: Date, months: u32) -> Vec<Date> {
     let (year, month) = month_after(date, months);
-    let in_month = (date.day..=days_in_month(year, month)).map(|day| Date::new(year, month, day));
+    let length = days_in_month(year, month);
+    let in_month = (date.day.min(length)..=length).map(|day| Date::new(year, month, day));
     let (year, month) = month_after(date, months + 1);
-    let last = days_in_month(year, month).min(date.day - 1);
-    let in_next_month = (1..=last).map(|day| Date::new(year, month, day));
+    let next_complete = date.day.min(days_in_month(year, month));
+    let in_next_month = (1..next_complete).map(|day| Date::new(year, month, day));
     in_month.chain(in_next_month).collect()
 }
 
-/// All dates that a date is a count of complete months after, in order.
+/// All dates that a date is a count of complete months after, in order. The last
+/// day of a month is as many after every day of an earlier month.
 pub fn dates_before(date: Date, months: u32) -> Vec<Date> {
+    let is_last = date.day == days_in_month(date.year, date.month);
+    let day = if is_last { 31 } else { date.day };
     let (year, month) = month_before(date, months + 1);
     let in_month_before =
-        (date.day + 1..=days_in_month(year, month)).map(|day| Date::new(year, month, day));
+        (day + 1..=days_in_month(year, month)).map(|day| Date::new(year, month, day));
     let (year, month) = month_before(date, months);
-    let last = days_in_month(year, month).min(date.day);
+    let last = days_in_month(year, month).min(day);
     let in_month = (1..=last).map(|day| Date::new(year, month, day));
     in_month_before.chain(in_month).collect()
 }
@@ -252,21 +257,57 @@ pub fn day_after(date: Date) -> Date {
 mod tests {
     use super::*;
 
+    /// Days in and next to short months, and others.
+    const DAYS: [Date; 11] = [
+        Date::new(2024, 4, 5),
+        Date::new(2024, 2, 28),
+        Date::new(2024, 2, 29),
+        Date::new(2023, 2, 27),
+        Date::new(2023, 2, 28),
+        Date::new(2024, 4, 29),
+        Date::new(2024, 4, 30),
+        Date::new(2024, 3, 30),
+        Date::new(2024, 3, 31),
+        Date::new(2023, 12, 31),
+        Date::new(2025, 1, 1),
+    ];
+
     #[test]
     fn dates_before_and_after() {
-        let days = [
-            Date::new(2024, 4, 5),
-            Date::new(2024, 2, 29),
-            Date::new(2023, 12, 31),
-            Date::new(2025, 1, 1),
-        ];
-        for day in days {
+        for day in DAYS {
             for months in 0..=1199 {
                 let before = dates_before(day, months);
                 assert!(before.is_sorted() && before.len() >= 28, "{day:?}, {months}");
                 assert!(before.iter().all(|date| date.months_until(day) == months as i32));
                 assert!(before.iter().all(|&date| dates_after(date, months).contains(&day)));
             }
+        }
+    }
+
+    /// The days from a date on, each once: so many months after it, then one
+    /// more.
+    #[test]
+    fn every_day_after_a_date() {
+        for day in DAYS {
+            let mut next = day;
+            for date in (0..=1199).flat_map(|months| dates_after(day, months)) {
+                assert_eq!(date, next, "after {day:?}");
+                next = day_after(next);
+            }
+        }
+    }
+
+    /// The days up to a date, each once: so many months before it, and before
+    /// them those that are one more.
+    #[test]
+    fn every_day_before_a_date() {
+        for day in DAYS {
+            let mut next = dates_before(day, 1199)[0];
+            for date in (0..=1199).rev().flat_map(|months| dates_before(day, months)) {
+                assert_eq!(date, next, "before {day:?}");
+                next = day_after(next);
+            }
+            assert_eq!(next, day_after(day));
         }
     }
 }

@@ -66,17 +66,26 @@ impl Date {
     }
 
     /// Complete months from this date to a later one: a month is complete on
-    /// the same day of the month.
+    /// the same day of the month, and on the last day of a month that is too
+    /// short to have it.
     pub fn months_until(self, later: Date) -> i32 {
         let years = i32::from(later.year) - i32::from(self.year);
         let months = i32::from(later.month) - i32::from(self.month);
-        12 * years + months - i32::from(later.day < self.day)
+        let last_is_complete = later.day >= self.day || later.is_last_of_month();
+        12 * years + months - i32::from(!last_is_complete)
+    }
+
+    fn is_last_of_month(self) -> bool {
+        self.day == days_in_month(self.year, self.month)
     }
 
     /// The birthday at an age in years of somebody born on this date: the same
-    /// day and month, whether or not that year has such a day.
+    /// day and month, or the last day of the month if that year has no such day.
+    /// The year may lie beyond the calendar.
     pub fn birthday(self, years: u16) -> Date {
-        Date { year: self.year + years, ..self }
+        let year = self.year + years;
+        let day = self.day.min(days_in_month(year, self.month));
+        Date { year, day, ..self }
     }
 }
 
@@ -103,16 +112,88 @@ mod tests {
         let born = Date::new(1972, 6, 30);
         assert_eq!(born.months_until(Date::new(2023, 10, 15)), 615);
         let january = Date::new(2023, 1, 31);
-        assert_eq!(january.months_until(Date::new(2023, 2, 28)), 0);
+        assert_eq!(january.months_until(Date::new(2023, 2, 28)), 1);
     }
 
     #[test]
     fn a_month_is_complete_on_the_same_day() {
         let date = Date::new(2000, 2, 29);
         assert_eq!(date.months_until(date), 0);
-        assert_eq!(date.months_until(Date::new(2001, 2, 28)), 11);
+        assert_eq!(date.months_until(Date::new(2001, 2, 27)), 11);
+        assert_eq!(date.months_until(Date::new(2001, 2, 28)), 12);
         assert_eq!(date.months_until(Date::new(2001, 3, 1)), 12);
+        assert_eq!(date.months_until(Date::new(2004, 2, 28)), 47);
         assert_eq!(date.months_until(Date::new(2004, 2, 29)), 48);
+    }
+
+    /// A day of January 2023, a later date, and the months between.
+    const TO_SHORT_MONTHS: [(u8, Date, i32); 19] = [
+        (31, Date::new(2023, 2, 27), 0),
+        (31, Date::new(2023, 2, 28), 1),
+        (30, Date::new(2023, 2, 28), 1),
+        (29, Date::new(2023, 2, 28), 1),
+        (29, Date::new(2023, 2, 27), 0),
+        (28, Date::new(2023, 2, 28), 1),
+        (28, Date::new(2023, 2, 27), 0),
+        (31, Date::new(2023, 3, 1), 1),
+        (31, Date::new(2023, 3, 30), 1),
+        (31, Date::new(2023, 3, 31), 2),
+        (31, Date::new(2023, 4, 29), 2),
+        (31, Date::new(2023, 4, 30), 3),
+        (31, Date::new(2024, 2, 28), 12),
+        (31, Date::new(2024, 2, 29), 13),
+        (30, Date::new(2024, 2, 28), 12),
+        (31, Date::new(2100, 2, 28), 925),
+        (31, Date::new(2200, 2, 28), 2125),
+        (31, Date::new(2204, 2, 28), 2172),
+        (31, Date::new(2204, 2, 29), 2173),
+    ];
+
+    #[test]
+    fn a_month_is_complete_on_the_last_day_of_a_short_one() {
+        for (day, later, months) in TO_SHORT_MONTHS {
+            let earlier = Date::new(2023, 1, day);
+            assert_eq!(earlier.months_until(later), months, "{earlier:?} to {later:?}");
+        }
+    }
+
+    /// Only a month that the day of the later date leaves incomplete is made
+    /// complete, and the last day of the earlier date's month is a day as any.
+    #[test]
+    fn last_days_add_no_other_month() {
+        let date = |month, day| Date::new(2023, month, day);
+        for (earlier, later, months) in [
+            (date(1, 31), date(1, 31), 0),
+            (date(1, 1), date(1, 31), 0),
+            (date(1, 15), date(2, 28), 1),
+            (date(1, 31), date(3, 31), 2),
+            (date(2, 28), date(3, 27), 0),
+            (date(2, 28), date(3, 28), 1),
+            (date(2, 28), date(3, 31), 1),
+            (date(4, 30), date(5, 29), 0),
+            (date(4, 30), date(5, 30), 1),
+            (date(4, 30), date(5, 31), 1),
+        ] {
+            assert_eq!(earlier.months_until(later), months, "{earlier:?} to {later:?}");
+        }
+    }
+
+    /// 29 February is the last day of its month also where the year has none.
+    #[test]
+    fn sixtieth_birthdays() {
+        for (birth, birthday) in [
+            (Date::new(1970, 6, 15), Date::new(2030, 6, 15)),
+            (Date::new(1970, 12, 31), Date::new(2030, 12, 31)),
+            (Date::new(1940, 2, 28), Date::new(2000, 2, 28)),
+            (Date::new(1940, 2, 29), Date::new(2000, 2, 29)),
+            (Date::new(2040, 2, 28), Date::new(2100, 2, 28)),
+            (Date::new(2040, 2, 29), Date::new(2100, 2, 28)),
+            (Date::new(2040, 3, 1), Date::new(2100, 3, 1)),
+            (Date::new(2140, 2, 29), Date::new(2200, 2, 28)),
+            (Date::new(2144, 2, 29), Date::new(2204, 2, 29)),
+        ] {
+            assert_eq!(birth.birthday(60), birthday, "{birth:?}");
+        }
     }
 
     #[test]

@@ -1,7 +1,7 @@
 //! Reference implementation of the retirement quotation engine for police
 //! pensions.
 //!
-//! It is written from the rules document, the first five change requests and the
+//! It is written from the rules document, the first six change requests and the
 //! tables of the source documents and shares no code with the proved engine, so
 //! that the two can be held against each other.
 //!

@@ -11,36 +11,12 @@ use cases::fields::{at_every_place, plain_case, CaseFields};
 use cases::generator::Generator;
 use cases::random::any_case;
 use common::compare::{assert_date_fault, assert_file, assert_quote};
+use common::day_count::{date_of, Numbers};
 use reference::calendar::Date;
-
-/// A year, a month and a day, of any size.
-type Numbers = (u32, u32, u32);
 
 /// The days from 1 January 1899 to 31 December 2200, counted from 1 March of the
 /// year 0.
 const COUNTED_DAYS: RangeInclusive<u32> = 693_536..=803_838;
-
-/// The date of a day counted from 1 March of the year 0. With years that begin in
-/// March a leap day is the last of its year, and of 4 or 400 years; so whole
-/// spans are taken off the count, the longest first, and a last day that is one
-/// too many stays with the span before.
-fn date_of(count: u32) -> Numbers {
-    let (spans_of_400, rest) = (count / 146_097, count % 146_097);
-    let centuries = (rest / 36_524).min(3);
-    let rest = rest - 36_524 * centuries;
-    let (spans_of_4, rest) = (rest / 1_461, rest % 1_461);
-    let years = (rest / 365).min(3);
-    let day_of_year = rest - 365 * years;
-    let year = 400 * spans_of_400 + 100 * centuries + 4 * spans_of_4 + years;
-    // Five months from March or August on have 31, 30, 31, 30 and 31 days: 153.
-    let month = (5 * day_of_year + 2) / 153;
-    let day = day_of_year - (153 * month + 2) / 5 + 1;
-    if month < 10 {
-        (year, month + 3, day)
-    } else {
-        (year + 1, month - 9, day)
-    }
-}
 
 /// The days that there are from 1899 to 2200.
 struct Days(HashSet<Numbers>);
@@ -76,7 +52,7 @@ fn assert_fault((year, month, day): Numbers, fault: u32) {
     assert_eq!(told, fault, "year {year}, month {month}, day {day}");
 }
 
-/// The calendar of this file by itself: days whose count is known, and behind each
+/// The counted calendar by itself: days whose count is known, and behind each
 /// day the next of its month or, from the 28th on, the first of the next month.
 #[test]
 fn the_calendar_counted_in_days() {
