@@ -1,8 +1,9 @@
 /* Tells what is wrong with keyed dates, quotes a case, and one that the lump sum
  * allowance cuts, commutes two small pensions, files both cases with two others,
  * with numbers from 1 and with numbers that tell the year, finds lines again by
- * number and by member, and prints it all: money in pounds and pence, and how many
- * lines were compared to find a member. */
+ * number and by member, joins lines of the register as two offices may have them,
+ * and prints it all: money in pounds and pence, how many lines were compared to find
+ * a member, and what joining came to. */
 #include <inttypes.h>
 #include <stdio.h>
 #include <string.h>
@@ -172,6 +173,27 @@ static uint32_t find_member(size_t used, uint32_t member)
     return found.refusal;
 }
 
+/* Joins the register's first lines, as one office has them, with its last, as
+ * another has, into a buffer with room for so many lines. Gives 0 if the answer is
+ * another than expected, or the result another than the whole register. */
+static int join_offices(size_t used, size_t first_lines, size_t second_lines, size_t room, uint32_t expected)
+{
+    static uint8_t joined_bytes[sizeof register_bytes];
+    size_t first_used = first_lines * PENSION_LINE_LENGTH, second_used = second_lines * PENSION_LINE_LENGTH;
+    const uint8_t *second = register_bytes + used - second_used;
+    struct pension_written joined =
+        pension_join(register_bytes, first_used, first_used, second, second_used, second_used,
+                     joined_bytes, room * PENSION_LINE_LENGTH);
+    printf("joined the first %zu of the lines and the last %zu, with room for %zu: ",
+           first_lines, second_lines, room);
+    if (joined.refusal != PENSION_GRANTED) {
+        printf("refused with %" PRIu32 "\n", joined.refusal);
+        return joined.refusal == expected;
+    }
+    printf("%zu lines\n", joined.used / PENSION_LINE_LENGTH);
+    return expected == PENSION_GRANTED && joined.used == used && memcmp(joined_bytes, register_bytes, used) == 0;
+}
+
 int main(void)
 {
     if (!print_keyed_dates())
@@ -203,8 +225,16 @@ int main(void)
         return 1;
 
     /* Member 4 has the newest line and member 1 the oldest; 5 has none. */
-    return find_member(used, 4) != PENSION_GRANTED
+    if (find_member(used, 4) != PENSION_GRANTED
         || find_member(used, 1) != PENSION_GRANTED
-        || find_member(used, 5) != PENSION_ABSENT
+        || find_member(used, 5) != PENSION_ABSENT)
+        return 1;
+
+    /* Two offices have lines of this register: in common, touching, with one missing
+     * between, and with no room for the last. */
+    return !join_offices(used, CASES - 1, CASES - 1, CASES, PENSION_GRANTED)
+        || !join_offices(used, 1, CASES - 1, CASES, PENSION_GRANTED)
+        || !join_offices(used, 1, CASES - 2, CASES, PENSION_NOT_JOINABLE)
+        || !join_offices(used, CASES - 1, CASES - 1, CASES - 1, PENSION_TARGET_TOO_SHORT)
         || fflush(stdout) != 0 || ferror(stdout);
 }

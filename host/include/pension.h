@@ -29,6 +29,12 @@
  * same may be given with every filing. A refused filing sets nothing. FFFFFFFF is a
  * number too, and the last: the filing after it gets PENSION_NO_NUMBER.
  *
+ * Joined registers. pension_join makes one register of two whose numbers overlap
+ * or touch, as two offices have them that share a run of numbers: every number from
+ * the lower first to the higher last stands in it once, and its lines are those of
+ * the two. Neither is changed, and it does not matter which is given first. A
+ * register without lines (used length 0) adds nothing.
+ *
  * What the engine is lent. Every pointer is lent for the length of the call
  * alone; nothing is kept afterwards. Each pointer must have its length in bytes
  * behind it, and may be NULL where that is 0. Buffers of one call must not
@@ -37,13 +43,14 @@
  *
  * What is written. pension_file, pension_file_lines and pension_file_all write
  * register lines behind the used part and no other byte of the register; the
- * last two also write a byte for each line into `refusals`. No other call
- * writes anything.
+ * last two also write a byte for each line into `refusals`. pension_join writes
+ * its result at the start of `target` and no other byte. No other call writes
+ * anything.
  *
  * What a refusal leaves. All figures of the answer are 0 (but the offset that
  * pension_check gives with PENSION_BAD_REGISTER, and the count of lines that
- * pension_find_member gives with PENSION_ABSENT), and no byte of the register
- * is written. The lowest refusal that applies is given.
+ * pension_find_member gives with PENSION_ABSENT), and no byte of the register,
+ * or of the target, is written. The lowest refusal that applies is given.
  *
  * Threads. The engine has no state of its own and allocates nothing: calls may
  * run at the same time in any number of threads, as long as no other call
@@ -74,7 +81,7 @@ extern "C" {
 #define PENSION_MOST 4
 
 /* The refusals, lowest first: of the case line, of the register, of finding, of
- * trivial commutation. */
+ * trivial commutation, of joining. */
 enum pension_refusal {
     PENSION_GRANTED = 0,         /* no refusal */
     PENSION_BAD_CHARACTER = 1,   /* a character is not 0-9 or A-F */
@@ -92,7 +99,9 @@ enum pension_refusal {
     PENSION_NO_SPACE = 12,       /* fewer bytes free than a line has */
     PENSION_NO_NUMBER = 13,      /* the last number is FFFFFFFF */
     PENSION_ABSENT = 14,         /* no line has the number, or the member */
-    PENSION_NOT_COMMUTABLE = 15  /* the scheme, the age or a pension is outside what trivial commutation takes */
+    PENSION_NOT_COMMUTABLE = 15, /* the scheme, the age or a pension is outside what trivial commutation takes */
+    PENSION_NOT_JOINABLE = 16,   /* a number of both registers has unlike lines, or a number between is in neither */
+    PENSION_TARGET_TOO_SHORT = 17 /* the buffer is shorter than the joined register */
 };
 
 /* The faults of a date, in the order in which they are tested. They are not
@@ -157,6 +166,12 @@ struct pension_commuted {
     uint64_t lump;    /* with 0: the lump sum */
 };
 
+/* A register that was written into a buffer, at its start. */
+struct pension_written {
+    uint32_t refusal; /* 0, 11, 16 or 17 */
+    size_t used;      /* with 0: the used length of the register that was written */
+};
+
 /* The quote of a case line (its newline left out). Refusals 1 to 10. */
 struct pension_quote pension_quote(const uint8_t *line, size_t line_length);
 
@@ -197,6 +212,20 @@ struct pension_found pension_find_number(const uint8_t *register_bytes, size_t r
  * before any line is compared. */
 struct pension_found_member pension_find_member(const uint8_t *register_bytes, size_t register_length,
                                                 size_t used, uint32_t member);
+
+/* Joins two registers into a third buffer, `target`. The result stands at its
+ * start: each number from the lower first to the higher last once, with the line
+ * that it has in either register; lines with a number of both must be equal in
+ * every character. Bytes of the target past the result stay. Registers of which
+ * one begins with the number after the other's last are joined; a register joined
+ * with an empty one, or with itself, gives itself; two empty ones give used length
+ * 0, whatever the target. Refusals 11, 16 and 17, in this order: both used parts
+ * are checked whole first. Under each of them the target is not touched. A target
+ * as long as both used parts together is always long enough. Either register may
+ * lie in the other's bytes, but not in the target's. */
+struct pension_written pension_join(const uint8_t *first, size_t first_length, size_t first_used,
+                                    const uint8_t *second, size_t second_length, size_t second_used,
+                                    uint8_t *target, size_t target_length);
 
 /* The trivial commutation of a former officer's small pension in payment: the
  * member's pension times its factor plus the survivor's pension times its factor,

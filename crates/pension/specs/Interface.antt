@@ -8,6 +8,7 @@ use Rattle.register.specs.declared.answers.Located.{Located}
 use Rattle.register.specs.declared.answers.LocatedMember.{LocatedMember}
 use Rattle.register.specs.Layout.{Register}
 use Rattle.register.specs.Text.{FiledText}
+use Rattle.joining.specs.declared.Written.{Written}
 use Rattle.trivial_commutation.specs.declared.Commuted.{Commuted}
 use Rattle.pension.specs.declared.answers.PensionQuote.{PensionQuote}
 use Rattle.pension.specs.declared.answers.PensionChecked.{PensionChecked}
@@ -16,6 +17,7 @@ use Rattle.pension.specs.declared.answers.PensionFiledLines.{PensionFile
 use Rattle.pension.specs.declared.answers.PensionFound.{PensionFound}
 use Rattle.pension.specs.declared.answers.PensionFoundMember.{PensionFoundMember}
 use Rattle.pension.specs.declared.answers.PensionCommuted.{PensionCommuted}
+use Rattle.pension.specs.declared.answers.PensionWritten.{PensionWritten}
 
 -- a quote, with the figures of its four shares side by side
 unfoldable pub quoteForC : Quote → PensionQuote
@@ -57,3 +59,7 @@ foundMemberForC m = record {
 -- the trivial commutation of a small pension
 unfoldable pub commutedForC : Commuted → PensionCommuted
 commutedForC c = record { refusal = c .refusal; lump = c .lump .0 }
+
+-- a register written into a buffer
+unfoldable pub writtenForC : Written → PensionWritten
+writtenForC w = record { refusal = w .refusal; used = w .used }

@@ -57,3 +57,10 @@ pub struct PensionCommuted {
     pub refusal: u32,
     pub lump: u64,
 }
+
+// A register written into a buffer: refusal 0 and its used length, or the refusal and 0.
+#[repr(C)]
+pub struct PensionWritten {
+    pub refusal: u32,
+    pub used: usize,
+}

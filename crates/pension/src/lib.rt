@@ -1,5 +1,5 @@
-// The C interface: quoting, checking, filing, finding, trivial commutation and the fault of a date under their C names, with the
-// same promises. A slice passes as a pointer and a length. host/include/pension.h declares these for C.
+// The C interface: quoting, checking, filing, finding, joining, trivial commutation and the fault of a date under their C names, with
+// the same promises. A slice passes as a pointer and a length. host/include/pension.h declares these for C.
 mod answers;
 
 use answers::PensionChecked;
@@ -9,6 +9,7 @@ use answers::PensionFiledLines;
 use answers::PensionFound;
 use answers::PensionFoundMember;
 use answers::PensionQuote;
+use answers::PensionWritten;
 use register::answers::Filed;
 use register::answers::Located;
 use register::answers::LocatedMember;
@@ -23,8 +24,9 @@ ghost use Rattle.register.specs.Find.{hasNumber, hasMember, findLine, locate, l
 ghost use Rattle.register.specs.Layout.{lent};
 ghost use Rattle.register.specs.File.{filing, fileStep};
 ghost use Rattle.register.specs.Text.{FiledAll};
+ghost use Rattle.joining.specs.Join.{joinStep};
 ghost use Rattle.trivial_commutation.specs.TrivialCommutation.{trivialCommutation};
-ghost use Rattle.pension.specs.Interface.{quoteForC, checkedForC, filedForC, FiledTextForC, foundForC, foundMemberForC, commutedForC};
+ghost use Rattle.pension.specs.Interface.{quoteForC, checkedForC, filedForC, FiledTextForC, foundForC, foundMemberForC, commutedForC, writtenForC};
 
 // The figures of a quote's four shares side by side, in the width that C has them.
 fn quote_for_c(quote: Quote) -> PensionQuote
@@ -170,6 +172,24 @@ pub extern "C" fn pension_find_member(
 {
     let found = register::locate_member(register, used, member);
     found_member_for_c(found)
+}
+
+// Joins two registers into a third buffer.
+#[no_mangle]
+pub extern "C" fn pension_join(
+    first: &[u8],
+    first_used: usize,
+    second: &[u8],
+    second_used: usize,
+    target: &mut [u8],
+) -> PensionWritten
+    ensures { λ r. ⌜ (r ≡ writtenForC (joinStep (lent (now (first .entry)) «first_used») (lent (now (second .entry)) «second_used») (now (target .entry)) .answer)) × (now (target .exit) ≡ joinStep (lent (now (first .entry)) «first_used») (lent (now (second .entry)) «second_used») (now (target .entry)) .state) ⌝ }
+{
+    let written = joining::join(first, first_used, second, second_used, target);
+    PensionWritten {
+        refusal: written.refusal as u32,
+        used: written.used,
+    }
 }
 
 // Commutes the small pension of a scheme in payment to a former officer of an age, and the survivor's pension with it.

@@ -1,5 +1,6 @@
 //! The same work by two, in one run: by the proved engine and by the
-//! reference, or by two archives of the engine and their programs.
+//! reference, or by two archives of the engine and their programs; and joining by
+//! the engine and by plain copying.
 //!
 //! Each job is done by both in turn, several times, and the shortest time of
 //! each counts. Buffers are written once before the clock starts.
@@ -10,6 +11,7 @@
 mod archive;
 mod comparison;
 mod implementations;
+mod joining;
 mod programs;
 mod table;
 mod work;
@@ -30,6 +32,7 @@ use cases::registers::{set_own_members, sound_register, LINE};
 use archive::Archive;
 use comparison::{Comparison, Side};
 use implementations::{LinkedEngine, Reference};
+use joining::compare_joining;
 use table::{Quotient, Table};
 use work::Effort;
 
@@ -65,7 +68,8 @@ fn compare() -> io::Result<()> {
     }
 }
 
-/// The engine that this program is linked with against the reference.
+/// The engine that this program is linked with against the reference, and in
+/// joining against plain copying too.
 fn compare_with_reference() -> io::Result<()> {
     let made = PathBuf::from(env!("CARGO_MANIFEST_DIR")).join("../../target/bin");
     let own_folder = programs::own_folder()?;
@@ -84,7 +88,9 @@ fn compare_with_reference() -> io::Result<()> {
     comparison.table.print_heading();
     comparison.quote_lines(MIXED, &text);
     comparison.quote_lines(CUT, &cut);
-    comparison.file_and_find(&text, &register)
+    comparison.file_and_find(&text, &register)?;
+    compare_joining(&comparison.effort, &comparison.table);
+    Ok(())
 }
 
 /// An archive against another. Every line is quoted by both before the first

@@ -2,8 +2,9 @@
 
 use std::ops::Range;
 
-use engine::{Checked, Commuted, Filed, Found, FoundMember, Quote};
+use engine::{Checked, Commuted, Filed, Found, FoundMember, Quote, Written};
 use reference::calendar;
+use reference::joining;
 use reference::money::{LumpPence, YearlyPence};
 use reference::register::{self as book, MemberSearch};
 use reference::Refusal;
@@ -65,6 +66,19 @@ pub fn trivial_commutation(
 
 pub fn date_fault(year: u32, month: u32, day: u32) -> u32 {
     calendar::date_fault(year, month, day).map_or(0, |fault| u32::from(fault.number()))
+}
+
+pub fn join(
+    first: &[u8],
+    first_used: usize,
+    second: &[u8],
+    second_used: usize,
+    target: &mut [u8],
+) -> Written {
+    match joining::join(first, first_used, second, second_used, target) {
+        Ok(used) => Written { refusal: 0, used },
+        Err(refusal) => Written { refusal: number(refusal), used: 0 },
+    }
 }
 
 fn found(found: Result<Range<usize>, Refusal>) -> Found {

@@ -6,5 +6,6 @@ pub mod answers;
 pub mod fields;
 pub mod generator;
 pub mod month_ends;
+pub mod pairs;
 pub mod random;
 pub mod registers;

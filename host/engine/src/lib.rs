@@ -81,6 +81,14 @@ pub struct Commuted {
     pub lump: u64,
 }
 
+/// A register written into a buffer: with refusal 0 its used length there.
+#[repr(C)]
+#[derive(Clone, Copy, Debug, Default, PartialEq, Eq)]
+pub struct Written {
+    pub refusal: u32,
+    pub used: usize,
+}
+
 /// Quotes one case line, its newline left out.
 pub fn quote(line: &[u8]) -> Quote {
     optional::quote(Some(line))
@@ -154,4 +162,19 @@ pub fn trivial_commutation(
 pub fn date_fault(year: u32, month: u32, day: u32) -> u32 {
     // SAFETY: the call takes numbers alone, and the engine takes any.
     unsafe { raw::pension_date_fault(year, month, day) }
+}
+
+/// Joins two registers at the start of a third buffer, `target`: every number from
+/// the lower first to the higher last has its line there once. The bytes past the
+/// result stay, and under a refusal all do: 11 for a bad register, 16 for unlike
+/// lines of one number or a number between that is in neither, 17 for a target that
+/// is too short. The two registers are only read, and may overlap each other.
+pub fn join(
+    first: &[u8],
+    first_used: usize,
+    second: &[u8],
+    second_used: usize,
+    target: &mut [u8],
+) -> Written {
+    optional::join(Some(first), first_used, Some(second), second_used, Some(target))
 }

@@ -4,7 +4,7 @@
 use std::ptr;
 
 use crate::raw;
-use crate::{Checked, Filed, FiledLines, Found, FoundMember, Quote};
+use crate::{Checked, Filed, FiledLines, Found, FoundMember, Quote, Written};
 
 fn parts(slice: Option<&[u8]>) -> (*const u8, usize) {
     slice.map_or((ptr::null(), 0), |bytes| (bytes.as_ptr(), bytes.len()))
@@ -100,4 +100,31 @@ pub fn find_member(register: Option<&[u8]>, used: usize, member: u32) -> FoundMe
     let (register, register_length) = parts(register);
     // SAFETY: as for `check`.
     unsafe { raw::pension_find_member(register, register_length, used, member) }
+}
+
+pub fn join(
+    first: Option<&[u8]>,
+    first_used: usize,
+    second: Option<&[u8]>,
+    second_used: usize,
+    target: Option<&mut [u8]>,
+) -> Written {
+    let (first, first_length) = parts(first);
+    let (second, second_length) = parts(second);
+    let (target, target_length) = parts_mut(target);
+    // SAFETY: pointers and lengths are those of live slices, or null and 0, and
+    // the target overlaps neither of the others; the engine tests the used
+    // lengths itself.
+    unsafe {
+        raw::pension_join(
+            first,
+            first_length,
+            first_used,
+            second,
+            second_length,
+            second_used,
+            target,
+            target_length,
+        )
+    }
 }

@@ -1,6 +1,6 @@
 //! The C declarations, one for one.
 
-use crate::{Checked, Commuted, Filed, FiledLines, Found, FoundMember, Quote};
+use crate::{Checked, Commuted, Filed, FiledLines, Found, FoundMember, Quote, Written};
 
 extern "C" {
     pub fn pension_quote(line: *const u8, line_length: usize) -> Quote;
@@ -59,4 +59,15 @@ extern "C" {
     ) -> Commuted;
 
     pub fn pension_date_fault(year: u32, month: u32, day: u32) -> u32;
+
+    pub fn pension_join(
+        first: *const u8,
+        first_length: usize,
+        first_used: usize,
+        second: *const u8,
+        second_length: usize,
+        second_used: usize,
+        target: *mut u8,
+        target_length: usize,
+    ) -> Written;
 }

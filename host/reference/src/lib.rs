@@ -1,14 +1,15 @@
 //! Reference implementation of the retirement quotation engine for police
 //! pensions.
 //!
-//! It is written from the rules document, the first six change requests and the
+//! It is written from the rules document, the first seven change requests and the
 //! tables of the source documents and shares no code with the proved engine, so
 //! that the two can be held against each other.
 //!
 //! Modules use one another in one direction: [`money`], [`factors`],
 //! [`calendar`], [`hexadecimal`] and [`refusals`], then [`trivial_commutation`],
 //! [`allowance`], [`case_line`], [`split`], [`limit`], [`acceptance`],
-//! [`quoting`], [`register`] and [`quotes`], each only some of those before it.
+//! [`quoting`], [`register`], [`joining`] and [`quotes`], each only some of those
+//! before it.
 
 #![forbid(unsafe_code)]
 
@@ -18,6 +19,7 @@ pub mod calendar;
 pub mod case_line;
 pub mod factors;
 pub mod hexadecimal;
+pub mod joining;
 pub mod limit;
 pub mod money;
 pub mod quotes;

@@ -34,6 +34,10 @@ pub enum Refusal {
     Absent = 14,
     /// Trivial commutation has no such scheme, age or pension.
     NotCommutable = 15,
+    /// Two registers have unlike lines for a number, or none for one between.
+    NotJoinable = 16,
+    /// No room for two joined registers.
+    TargetTooShort = 17,
 }
 
 impl Refusal {

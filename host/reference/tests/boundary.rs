@@ -4,9 +4,10 @@
 mod common;
 
 use cases::fields::plain_case;
-use cases::registers::{FIRST_NUMBERS, LINE};
+use cases::generator::Generator;
+use cases::registers::{sound_register, FIRST_NUMBERS, LINE};
 use common::guarded::{lend, lend_mut};
-use engine::{optional, Checked, Filed, FiledLines, Found, FoundMember, Quote};
+use engine::{optional, Checked, Filed, FiledLines, Found, FoundMember, Quote, Written};
 
 /// Used lengths that no empty buffer has.
 const BEYOND: [usize; 7] =
@@ -19,6 +20,9 @@ const ABSENT: Found = Found { refusal: 14, offset: 0, length: 0 };
 const NOT_FOUND_IN_BAD_REGISTER: Found = Found { refusal: 11, offset: 0, length: 0 };
 const NO_MEMBER: FoundMember = FoundMember { refusal: 14, offset: 0, length: 0, compared: 0 };
 const NO_MEMBER_IN_BAD_REGISTER: FoundMember = FoundMember { refusal: 11, ..NO_MEMBER };
+const JOINED_NOTHING: Written = Written { refusal: 0, used: 0 };
+const NOT_JOINED_WITH_BAD_REGISTER: Written = Written { refusal: 11, used: 0 };
+const NO_ROOM_TO_JOIN: Written = Written { refusal: 17, used: 0 };
 
 /// An empty buffer in each way it can be lent: no pointer, and one to nothing.
 fn nothing() -> [Option<&'static [u8]>; 2] {
@@ -175,4 +179,56 @@ fn assert_lines_with_buffers_missing(used: usize, first: u32, text: &[u8]) {
     assert_eq!(register, [0x5A; LINE - 1]);
     let filed = optional::file_lines(None, used, first, None, None);
     assert_eq!(filed, FiledLines { used, lines: 0 });
+}
+
+/// Two empty registers of no bytes, into a third buffer of none and of some.
+#[test]
+fn joining_nothing_with_nothing() {
+    for (first, second) in nothing().into_iter().flat_map(|one| nothing().map(|other| (one, other)))
+    {
+        for target in [None, Some(&mut [][..])] {
+            assert_eq!(optional::join(first, 0, second, 0, target), JOINED_NOTHING);
+        }
+        let (joined, target) =
+            lend_mut(&[0xEE; 130], |target| optional::join(first, 0, second, 0, Some(target)));
+        assert_eq!((joined, target), (JOINED_NOTHING, vec![0xEE; 130]));
+        for used in BEYOND {
+            for (first_used, second_used) in [(used, 0), (0, used), (used, used)] {
+                let join = |target: Option<&mut [u8]>| {
+                    optional::join(first, first_used, second, second_used, target)
+                };
+                assert_eq!(join(None), NOT_JOINED_WITH_BAD_REGISTER);
+                let (joined, target) = lend_mut(&[0xEE; LINE], |target| join(Some(target)));
+                assert_eq!(joined, NOT_JOINED_WITH_BAD_REGISTER);
+                assert_eq!(target, [0xEE; LINE]);
+            }
+        }
+    }
+}
+
+/// A register of two lines with one of no bytes, in both orders: it is given back,
+/// and has no room in a third buffer of no bytes.
+#[test]
+fn joining_lines_with_nothing() {
+    let register = sound_register(&mut Generator::for_test("joining_lines_with_nothing"), 2, 77);
+    let (lines, used) = (Some(&register[..]), register.len());
+    for empty in nothing() {
+        let (first, second) = ((lines, used), (empty, 0));
+        for ((first, first_used), (second, second_used)) in [(first, second), (second, first)] {
+            let join = |target: Option<&mut [u8]>| {
+                optional::join(first, first_used, second, second_used, target)
+            };
+            assert_eq!(join(None), NO_ROOM_TO_JOIN);
+            assert_eq!(join(Some(&mut [])), NO_ROOM_TO_JOIN);
+            let (joined, target) = lend_mut(&vec![0xEE; used + 9], |target| join(Some(target)));
+            assert_eq!(joined, Written { refusal: 0, used });
+            assert_eq!(target, [&register[..], &[0xEE; 9]].concat());
+        }
+        for used in BEYOND {
+            let joined = optional::join(lines, register.len(), empty, used, None);
+            assert_eq!(joined, NOT_JOINED_WITH_BAD_REGISTER);
+            let joined = optional::join(empty, used, lines, register.len(), None);
+            assert_eq!(joined, NOT_JOINED_WITH_BAD_REGISTER);
+        }
+    }
 }

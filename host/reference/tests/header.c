@@ -21,6 +21,8 @@ static struct pension_found_member (*const find_member)(const uint8_t *, size_t,
 static struct pension_commuted (*const trivial_commutation)(uint32_t, uint32_t, uint64_t,
                                                             uint64_t) = pension_trivial_commutation;
 static uint32_t (*const date_fault)(uint32_t, uint32_t, uint32_t) = pension_date_fault;
+static struct pension_written (*const join)(const uint8_t *, size_t, size_t, const uint8_t *, size_t, size_t,
+                                            uint8_t *, size_t) = pension_join;
 
 /* Cases of document 01, by member: the example of the program, a kind 2 pension,
  * and kind 1 with kind 3. */
@@ -93,6 +95,9 @@ static void print_structs(void)
     STRUCT(pension_commuted);
     FIELD(pension_commuted, refusal);
     FIELD(pension_commuted, lump);
+    STRUCT(pension_written);
+    FIELD(pension_written, refusal);
+    FIELD(pension_written, used);
 }
 
 static void print_constants(void)
@@ -116,6 +121,8 @@ static void print_constants(void)
     CONSTANT(PENSION_NO_NUMBER);
     CONSTANT(PENSION_ABSENT);
     CONSTANT(PENSION_NOT_COMMUTABLE);
+    CONSTANT(PENSION_NOT_JOINABLE);
+    CONSTANT(PENSION_TARGET_TOO_SHORT);
     CONSTANT(PENSION_DATE_GOOD);
     CONSTANT(PENSION_DATE_WRONG_DAY);
     CONSTANT(PENSION_DATE_WRONG_MONTH);
@@ -377,6 +384,50 @@ static void try_date_fault(void)
         EXPECT(date_fault(dates[k].year, dates[k].month, dates[k].day) == dates[k].fault);
 }
 
+/* Joins two registers of the room of three lines and expects an answer and, where
+ * there is a result, its lines, with the rest of the third buffer untouched. */
+static void try_join_of(const uint8_t *first, size_t first_used, const uint8_t *second, size_t second_used,
+                        size_t target_length, struct pension_written expected, const uint8_t *lines)
+{
+    uint8_t target[ROOM + 1];
+    memset(target, UNTOUCHED, sizeof target);
+    struct pension_written joined = join(first, ROOM, first_used, second, ROOM, second_used, target, target_length);
+    EXPECT(joined.refusal == expected.refusal && joined.used == expected.used);
+    EXPECT(memcmp(target, lines, expected.used) == 0);
+    EXPECT(is_untouched(target + expected.used, sizeof target - expected.used));
+}
+
+/* Registers with the numbers 7 to 9, with the last two of these, with the last of
+ * them, and with 8 for another member: overlapping, touching, empty, with a number
+ * between, with unlike lines, bad, and with a third buffer that is too short. */
+static void try_join(void)
+{
+    uint8_t all[ROOM] = {0}, end[ROOM] = {0}, last[ROOM] = {0}, other[ROOM] = {0};
+    filed(all, 0, 7, MEMBER_1);
+    filed(all, LINE, 7, MEMBER_2);
+    filed(all, 2 * LINE, 7, MEMBER_4);
+    filed(end, 0, 8, MEMBER_2);
+    filed(end, LINE, 8, MEMBER_4);
+    filed(last, 0, 9, MEMBER_4);
+    filed(other, 0, 8, MEMBER_3);
+    const struct pension_written whole = {PENSION_GRANTED, 3 * LINE}, none = {PENSION_GRANTED, 0};
+    const struct pension_written bad = {PENSION_BAD_REGISTER, 0}, not_joinable = {PENSION_NOT_JOINABLE, 0};
+    const struct pension_written too_short = {PENSION_TARGET_TOO_SHORT, 0};
+
+    try_join_of(all, 2 * LINE, end, 2 * LINE, ROOM, whole, all);
+    try_join_of(end, 2 * LINE, all, LINE, ROOM + 1, whole, all);
+    try_join_of(other, 0, all, 3 * LINE, ROOM, whole, all);
+    try_join_of(all, 0, other, 0, 0, none, all);
+    try_join_of(all, 2 * LINE, end, 2 * LINE, ROOM - 1, too_short, all);
+    try_join_of(all, LINE, last, LINE, ROOM, not_joinable, all);
+    try_join_of(all, 2 * LINE, other, LINE, ROOM, not_joinable, all);
+    try_join_of(all, 2 * LINE, other, LINE, 0, not_joinable, all);
+    try_join_of(all, 2 * LINE - 1, other, LINE, 0, bad, all);
+    try_join_of(other, LINE, all, ROOM + LINE, ROOM, bad, all);
+    struct pension_written nothing = join(NULL, 0, 0, NULL, 0, 0, NULL, 0);
+    EXPECT(nothing.refusal == PENSION_GRANTED && nothing.used == 0);
+}
+
 int main(void)
 {
     uint8_t register_bytes[ROOM];
@@ -394,5 +445,6 @@ int main(void)
     try_first_numbers_of_texts();
     try_trivial_commutation();
     try_date_fault();
+    try_join();
     return failures != 0;
 }

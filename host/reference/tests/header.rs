@@ -8,7 +8,9 @@ use std::mem::{offset_of, size_of};
 use std::path::{Path, PathBuf};
 use std::process::Command;
 
-use engine::{Checked, Commuted, Filed, FiledLines, Found, FoundMember, Quote, MOST_PENSIONS};
+use engine::{
+    Checked, Commuted, Filed, FiledLines, Found, FoundMember, Quote, Written, MOST_PENSIONS,
+};
 use reference::calendar::DateFault;
 use reference::{case_line, register, Refusal};
 
@@ -72,6 +74,7 @@ fn structs() -> String {
     write_struct!(text, "pension_found", Found: refusal, offset, length);
     write_struct!(text, "pension_found_member", FoundMember: refusal, offset, length, compared);
     write_struct!(text, "pension_commuted", Commuted: refusal, lump);
+    write_struct!(text, "pension_written", Written: refusal, used);
     text
 }
 
@@ -93,6 +96,8 @@ fn refusals() -> Vec<(&'static str, usize)> {
         ("NO_NUMBER", Refusal::LastNumber),
         ("ABSENT", Refusal::Absent),
         ("NOT_COMMUTABLE", Refusal::NotCommutable),
+        ("NOT_JOINABLE", Refusal::NotJoinable),
+        ("TARGET_TOO_SHORT", Refusal::TargetTooShort),
     ];
     refusals.map(|(name, refusal)| (name, usize::from(refusal.number()))).to_vec()
 }

@@ -33,7 +33,7 @@ impl Drop for Input<'_> {
 }
 
 /// The beginning of an input that may be megabytes long.
-fn beginning(bytes: &[u8]) -> String {
+pub fn beginning(bytes: &[u8]) -> String {
     bytes[..bytes.len().min(20_000)].escape_ascii().to_string()
 }
 
