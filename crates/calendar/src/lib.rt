@@ -1,4 +1,5 @@
 // Dates: whether they are in the calendar and what is wrong with them if not, their order, and the months between them.
+#![tactic(auto)]
 ghost use Rattle.std.specs.Prelude.{◌≡◌, ◌+◌, ◌*◌, ◌≤◌};
 ghost use Rattle.calendar.specs.Calendar.{date, leap, month_length, length_in, date_fault, in_calendar, common_date, earlier, last_day, incomplete, months, sixtieth_birthday};
 
@@ -8,7 +9,7 @@ const FIRST_YEAR: u32 = 1900;
 const LAST_YEAR: u32 = 2199;
 
 // Any three numbers of these widths, as they stand in a case line; in_calendar tells which are dates.
-#[derive(Drop)]
+#[derive(Clone, Copy)]
 pub struct Date {
     pub year: u16,
     pub month: u8,

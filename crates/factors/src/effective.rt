@@ -2,14 +2,14 @@
 ghost use Rattle.std.specs.Prelude.{◌≡◌, ◌*◌, ◌<◌};
 ghost use Rattle.factors.specs.Effective.{effective_factor, lump_top, lump_bottom, multiplier, multiple};
 
-#[derive(Drop)]
+#[derive(Clone, Copy)]
 pub struct Factor {
     pub top: u64,
     pub bottom: u64,
 }
 
 // F1, F2, F3 and PI of a pension: hundredths, hundredths, thousandths, hundredths of a percent.
-#[derive(Drop)]
+#[derive(Clone, Copy)]
 pub struct FactorTerms {
     pub f1: u16,
     pub f2: u16,

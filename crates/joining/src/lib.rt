@@ -1,5 +1,6 @@
 // Joining two registers whose numbers meet or overlap into a third buffer. Nothing is written before every refusal is decided, and
 // the registers are compared and copied by whole parts: their numbers rise by one, so the first of each tells which lines both have.
+#![tactic(auto)]
 ghost use Rattle.std.specs.Prelude.{◌≡◌, not, min, ◌++◌, length};
 ghost use Rattle.register.specs.Layout.{lent, used_lines};
 ghost use Rattle.joining.specs.Join.{first_number, same_characters, refused_answer, join_step};
@@ -15,7 +16,7 @@ const NOT_JOINABLE: u8 = 16;
 const TARGET_TOO_SHORT: u8 = 17;
 
 // What joining answers: refusal 0 and the used length of the result, or the refusal and 0.
-#[derive(Drop)]
+#[derive(Clone, Copy)]
 pub struct Written {
     pub refusal: u8,
     pub used: usize,

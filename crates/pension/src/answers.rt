@@ -3,7 +3,7 @@
 
 // A quote: refusal 0 and the figures of up to four pensions, or the refusal and zeros.
 #[repr(C)]
-#[derive(Drop)]
+#[derive(Clone, Copy)]
 pub struct PensionQuote {
     pub refusal: u32,
     pub member: u32,
@@ -15,7 +15,7 @@ pub struct PensionQuote {
 
 // The check of a register: refusal 0 or 11, and with 11 the offset of what is bad.
 #[repr(C)]
-#[derive(Drop)]
+#[derive(Clone, Copy)]
 pub struct PensionChecked {
     pub refusal: u32,
     pub offset: usize,
@@ -23,7 +23,7 @@ pub struct PensionChecked {
 
 // A filing: refusal 0 and the used length past the new line, or the refusal and 0.
 #[repr(C)]
-#[derive(Drop)]
+#[derive(Clone, Copy)]
 pub struct PensionFiled {
     pub refusal: u32,
     pub used: usize,
@@ -31,7 +31,7 @@ pub struct PensionFiled {
 
 // Filings of the lines of a text: the used length from then on, and how many lines there were.
 #[repr(C)]
-#[derive(Drop)]
+#[derive(Clone, Copy)]
 pub struct PensionFiledLines {
     pub used: usize,
     pub lines: usize,
@@ -39,7 +39,7 @@ pub struct PensionFiledLines {
 
 // A line found: refusal 0 with its offset and length in the register, or the refusal and zeros.
 #[repr(C)]
-#[derive(Drop)]
+#[derive(Clone, Copy)]
 pub struct PensionFound {
     pub refusal: u32,
     pub offset: usize,
@@ -49,7 +49,7 @@ pub struct PensionFound {
 // A member's newest line: as a line found, and how many lines were compared, from the newest back: 0 under 11, all lines under
 // 14.
 #[repr(C)]
-#[derive(Drop)]
+#[derive(Clone, Copy)]
 pub struct PensionFoundMember {
     pub refusal: u32,
     pub offset: usize,
@@ -59,7 +59,7 @@ pub struct PensionFoundMember {
 
 // The trivial commutation of a small pension: refusal 0 and the lump sum, or refusal 15 and 0.
 #[repr(C)]
-#[derive(Drop)]
+#[derive(Clone, Copy)]
 pub struct PensionCommuted {
     pub refusal: u32,
     pub lump: u64,
@@ -67,7 +67,7 @@ pub struct PensionCommuted {
 
 // A register written into a buffer: refusal 0 and its used length, or the refusal and 0.
 #[repr(C)]
-#[derive(Drop)]
+#[derive(Clone, Copy)]
 pub struct PensionWritten {
     pub refusal: u32,
     pub used: usize,

@@ -3,7 +3,7 @@
 use Prim.Native.Nat.{ℕ, zero, suc, ◌+◌, ◌*◌, ◌<◌}
 use mathlib.Core.Bool.{false}
 use mathlib.Core.List.{List, [], ◌∷◌, ◌++◌, append_assoc}
-use mathlib.Core.Path.{◌≡◌, refl, ◌∙◌, ap}
+use mathlib.Core.Path.{◌≡◌, refl, sym, ◌∙◌, ap, subst}
 use native.Mathlib.Omega.{arith}
 use lib.ListN.{length, get_or, take, drop, length-append, get_or-append}
 use lib.Seq.{get_or_at}
@@ -36,15 +36,21 @@ abbrev Fit : List ℕ → Type 0
 Fit [] = Unit
 Fit (x ∷ xs) = (x < 4294967296) × Fit xs
 
-figures_behind : (xs pre rest : List ℕ) → Fit xs → figures_at (pre ++ (figures_text xs ++ rest)) (length pre) (length xs) ≡ xs
+figures-more : (x : ℕ) (xs : List ℕ) → figures_text (x ∷ xs) ≡ hex_text figure_width x ++ figures_text xs
 unfolding figures_text
+figures-more x xs = refl
+
+figures_behind : (xs pre rest : List ℕ) → Fit xs → figures_at (pre ++ (figures_text xs ++ rest)) (length pre) (length xs) ≡ xs
 figures_behind [] pre rest fit = refl
 figures_behind (x ∷ xs) pre rest fit =
-    simp (
-      append_assoc,
+    let behind : figures_text (x ∷ xs) ++ rest ≡ hex_text figure_width x ++ (figures_text xs ++ rest) =
+    rw (figures-more x xs) (append_assoc (hex_text figure_width x) (figures_text xs) rest)
+    in
+    subst (λ (t : List ℕ). figures_at (pre ++ t) (length pre) (suc (length xs)) ≡ x ∷ xs) (sym behind)
+    (simp (
       hex_back pre (figures_text xs ++ rest) figure_width x fit.0,
       simp (append_assoc, length-append, hex_length) at (figures_behind xs (pre ++ hex_text figure_width x) rest fit.1),
-    )
+    ))
 
 -- the shares by their figures: how many, that they fit, and that they are read back from a place
 shares_count : (xs : List Share) → length (shares_figures xs) ≡ length xs * length (share_figures no_share)

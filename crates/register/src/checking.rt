@@ -18,7 +18,7 @@ const LAST_SPAN: usize = TEXT_LENGTH - SPAN;
 
 // What going along a register finds: the check's refusal and offset, and where there is none the number that a next line
 // must have, 0 where there is no line.
-#[derive(Drop)]
+#[derive(Clone, Copy)]
 pub struct Scanned {
     pub refusal: u8,
     pub offset: usize,

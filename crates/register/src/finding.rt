@@ -40,7 +40,7 @@ fn has_figure(register: &[u8], at: usize, digits: &[u8; FIGURE_WIDTH]) -> bool
 
 // What the search for a member among lines gives: the place of the line found, or the number of lines where there is none, and
 // how many were compared.
-#[derive(Drop)]
+#[derive(Clone, Copy)]
 struct Searched {
     place: usize,
     compared: usize,

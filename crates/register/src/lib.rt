@@ -1,4 +1,5 @@
 // The register: quotes filed as numbered lines in lent bytes, checked and found again.
+#![tactic(auto)]
 pub mod answers;
 mod checking;
 mod filing;

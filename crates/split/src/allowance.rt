@@ -6,7 +6,7 @@ use calendar::Date;
 use factors::money::LumpPence;
 
 // The allowance of a case. What is left of it counts only where it applies.
-#[derive(Drop)]
+#[derive(Clone, Copy)]
 pub struct Allowance {
     pub applies: bool,
     pub left: LumpPence,

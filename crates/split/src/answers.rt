@@ -2,7 +2,7 @@
 use factors::money::{LumpPence, YearlyPence};
 
 // The figures of one pension.
-#[derive(Drop)]
+#[derive(Clone, Copy)]
 pub struct Share {
     pub lump: LumpPence,
     pub remaining: YearlyPence,
@@ -10,7 +10,7 @@ pub struct Share {
 }
 
 // Refusal 0 is a grant. Under any other all figures are zero.
-#[derive(Drop)]
+#[derive(Clone, Copy)]
 pub struct Quote {
     pub refusal: u8,
     pub member: u32,

@@ -8,7 +8,7 @@ use calendar::Date;
 use factors::effective::FactorTerms;
 use factors::money::{LumpPence, YearlyPence};
 
-#[derive(Drop)]
+#[derive(Clone, Copy)]
 pub struct Head {
     pub member: u32,
     pub birth: Date,
@@ -16,13 +16,13 @@ pub struct Head {
     pub count: u8,
 }
 
-#[derive(Drop)]
+#[derive(Clone, Copy)]
 pub struct Service {
     pub start: Date,
     pub end: Date,
 }
 
-#[derive(Drop)]
+#[derive(Clone, Copy)]
 pub struct Pension {
     pub kind: u8,
     pub stated: YearlyPence,
@@ -31,25 +31,25 @@ pub struct Pension {
     pub terms: FactorTerms,
 }
 
-#[derive(Drop)]
+#[derive(Clone, Copy)]
 pub struct HeadField {
     pub value: Head,
     pub next: Cursor,
 }
 
-#[derive(Drop)]
+#[derive(Clone, Copy)]
 struct ServiceField {
     pub value: Service,
     pub next: Cursor,
 }
 
-#[derive(Drop)]
+#[derive(Clone, Copy)]
 struct TermsField {
     pub value: FactorTerms,
     pub next: Cursor,
 }
 
-#[derive(Drop)]
+#[derive(Clone, Copy)]
 pub struct PensionField {
     pub value: Pension,
     pub next: Cursor,

@@ -113,30 +113,30 @@ fn digits_at(line: &[u8], at: usize, count: usize) -> u32
 }
 
 // A place in a line. Each method takes the next field and hands the cursor back moved on.
-#[derive(Drop)]
+#[derive(Clone, Copy)]
 pub struct Cursor {
     pub at: usize,
 }
 
-#[derive(Drop)]
+#[derive(Clone, Copy)]
 pub struct ByteField {
     pub value: u8,
     pub next: Cursor,
 }
 
-#[derive(Drop)]
+#[derive(Clone, Copy)]
 pub struct ShortField {
     pub value: u16,
     pub next: Cursor,
 }
 
-#[derive(Drop)]
+#[derive(Clone, Copy)]
 pub struct NumberField {
     pub value: u32,
     pub next: Cursor,
 }
 
-#[derive(Drop)]
+#[derive(Clone, Copy)]
 pub struct DateField {
     pub value: Date,
     pub next: Cursor,

@@ -1,4 +1,5 @@
 // The split: from the bytes of a case line to its refusal or its quote.
+#![tactic(auto)]
 mod allowance;
 pub mod answers;
 mod case;

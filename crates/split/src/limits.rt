@@ -14,7 +14,7 @@ use factors::effective::{Factor, FactorTerms};
 use factors::money::{LumpPence, YearlyPence};
 
 // A pension of a case as the limits see it: P, E and the cap.
-#[derive(Drop)]
+#[derive(Clone, Copy)]
 pub struct Benefit {
     pub pension: YearlyPence,
     pub factor: Factor,
@@ -23,7 +23,7 @@ pub struct Benefit {
 
 // What the head of a case gives for each of its pensions: the age, Table 1's factor at it, and how many thousandths of a
 // 2015 pension are paid.
-#[derive(Drop)]
+#[derive(Clone, Copy)]
 pub struct Basis {
     pub age: u32,
     pub found: u16,

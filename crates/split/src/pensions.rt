@@ -8,7 +8,7 @@ use crate::frame::{Cursor, LONGEST};
 use crate::{case, limits, refusal};
 
 // The refusal of pensions that were worked out, and the cursor behind them.
-#[derive(Drop)]
+#[derive(Clone, Copy)]
 pub struct WorkedPensions {
     pub refusal: u8,
     pub next: Cursor,

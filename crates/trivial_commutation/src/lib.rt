@@ -1,5 +1,7 @@
 // Trivial commutation: one lump sum for the whole of a former officer's small pension in payment and of the survivor's pension that
 // goes with it.
+#![tactic(auto)]
+
 mod tables;
 
 ghost use Rattle.std.specs.Prelude.{◌≡◌, ◌*◌, ◌≤◌};
@@ -9,11 +11,11 @@ use factors::money::{LumpPence, YearlyPence};
 use tables::Factors;
 
 // Yearly money as the caller gives it, in pence and of any size, so that an amount that is too large is refused and never cut.
-#[derive(Drop)]
+#[derive(Clone, Copy)]
 pub struct YearlyAmount(pub u64);
 
 // Refusal 0 and the lump sum, or refusal 15 and none.
-#[derive(Drop)]
+#[derive(Clone, Copy)]
 pub struct Commuted {
     pub refusal: u8,
     pub lump: LumpPence,

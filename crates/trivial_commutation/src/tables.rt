@@ -4,7 +4,7 @@ ghost use Rattle.std.specs.Prelude.{◌≡◌};
 ghost use Rattle.trivial_commutation.specs.TrivialCommutation.{uses_table_1, uses_table_2, table_of, row_of};
 
 // The two factors of a row: for the pension in payment to the member, and for the survivor's pension.
-#[derive(Drop)]
+#[derive(Clone, Copy)]
 pub struct Factors {
     pub member: u8,
     pub survivor: u8,

@@ -1,0 +1,7 @@
+-- `pension_find_member` gives what the engine's `locate_member` found, which is where the line's bytes are.
+use native.Mathlib.Omega.{arith}
+use Rattle.pension.proofs.InterfaceLaws.{member_bytes}
+use Rattle.pension.proofs.pension_find_member.Goals as goal
+
+pub returns : goal.returns
+returns c = member_bytes _ _ _ _ c.locate_member-found.ensures c.found_member_for_c.ensures

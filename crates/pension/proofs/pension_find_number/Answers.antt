@@ -1,0 +1,7 @@
+-- `pension_find_number` gives where the engine's `locate_number` found the line, which is where its bytes are.
+use native.Mathlib.Omega.{arith}
+use Rattle.pension.proofs.InterfaceLaws.{found_bytes}
+use Rattle.pension.proofs.pension_find_number.Goals as goal
+
+pub returns : goal.returns
+returns c = found_bytes _ _ _ _ c.locate_number-located.ensures c.found_for_c.ensures

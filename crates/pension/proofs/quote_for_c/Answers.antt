@@ -1,0 +1,47 @@
+-- `quote_for_c` is the definition `quote_for_c`: the figures of the first `i` shares are stored, for any `i`.
+use Prim.Native.Nat.{◌-◌, ◌≤◌}
+use mathlib.Core.Path.{refl}
+use native.Mathlib.Omega.{arith}
+use Rattle.split.specs.declared.answers.Share.{Share}
+use Rattle.split.specs.Quote.{no_share}
+use Rattle.pension.specs.Interface.{quote_for_c}
+use Rattle.pension.proofs.InterfaceLaws.{Filled, filled_more, filled_all}
+use Rattle.pension.proofs.quote_for_c.Goals as goal
+
+pub loop-i-init : goal.loop-i-init
+loop-i-init c = (
+  omega arith,
+  record { size = refl; part = refl },
+  record { size = refl; part = refl },
+  record { size = refl; part = refl },
+)
+
+pub loop-i-preserved : goal.loop-i-preserved
+loop-i-preserved c =
+    let test = c in
+    let l = test.loop-i in
+    let four = test.requires in
+    let h = test.loop-i-test.true in (
+      omega arith,
+      filled_more l.invariant.1 four no_share h,
+      filled_more l.invariant.2 four no_share h,
+      filled_more l.invariant.3 four no_share h,
+    )
+
+pub returns : goal.returns
+unfolding quote_for_c
+returns c =
+    let test = c in
+    let l = test.loop-i in
+    let start = test in
+    let q = start.args.quote in
+    let h = l.invariant.0 in
+    let g = test.loop-i-test.false in
+    λ i. record {
+      refusal = q.refusal;
+      member = q.member;
+      total = q.total.0;
+      lump = filled_all l.invariant.1 start.requires h g i;
+      remaining = filled_all l.invariant.2 start.requires h g i;
+      second = filled_all l.invariant.3 start.requires h g i;
+    }

@@ -1,0 +1,117 @@
+-- `scan_lines` finds what the check of the lines finds: the lines from `at` on answer for all; a line that passes the tests of its
+-- number and of all its characters has no fault, and of any other the characters before `place` are good.
+use Prim.Native.Nat.{ℕ, ◌+◌, ◌-◌, ◌≤◌, ◌<◌}
+use mathlib.Core.Bool.{false, not}
+use mathlib.Core.Path.{◌≡◌, refl, sym, ◌∙◌}
+use mathlib.Core.Logic.{⊎_elim}
+use native.Mathlib.Omega.{arith}
+use lib.Dec.{eqb}
+use lib.ListN.{length-take, length-drop}
+use borrow.Author.Tests.{eqb-true, not-false}
+use Rattle.calendar.proofs.TestsLaws.{and_left, and_right, or_left, or_right}
+use Rattle.register.specs.Line.{figure_width, text_length}
+use Rattle.register.specs.Layout.{line_layout}
+use Rattle.register.proofs.LayoutLaws.{line_at}
+use Rattle.register.proofs.CheckLaws.{number_inside, Good}
+use Rattle.register.proofs.CheckLoop.{right_next, good_more, good_whole, Left, left_start, left_done, left_inside, stop_number, stop_character, left_on, scanned_unsound}
+use Rattle.register.proofs.checking.scan_lines.Invariants.{lineSize}
+use Rattle.register.proofs.checking.scan_lines.Goals as goal
+use Rattle.register.proofs.checking.scan_lines.Goals.{Else-place-wrong, Else-used-at, else-wrong-whole, then-wrong-whole+else-loop-place-test}
+
+-- a whole line is left
+inside : (c : Else-used-at) → c.lines.at + lineSize ≤ c.args.used
+unfolding text_length
+inside c = left_inside line_layout number_inside _ c.lines.invariant c.if-used-at.false
+
+pub lines-init : goal.lines-init
+lines-init c = left_start line_layout number_inside _ _ c.requires.1
+
+pub line_number-number-requires : goal.line_number-number-requires
+line_number-number-requires c = omega (arith, inside ((goal.at.line_number-number-requires c).Else-used-at))
+
+pub overflow_add-at : goal.overflow_add-at
+overflow_add-at c = omega (arith, inside ((goal.at.overflow_add-at c).Else-used-at))
+
+pub slice_bounds-has_layout-end : goal.slice_bounds-has_layout-end
+slice_bounds-has_layout-end c = omega (arith, inside ((goal.at.slice_bounds-has_layout-end c).Else-used-at))
+
+pub has_layout-whole-requires : goal.has_layout-whole-requires
+unfolding text_length
+has_layout-whole-requires c = simp (length-take, length-drop) (omega (arith, inside ((goal.at.has_layout-whole-requires c).Else-used-at)))
+
+pub loop-place-init : goal.loop-place-init
+loop-place-init c = (omega arith, λ j h. absurd (omega arith), λ h. absurd (omega arith))
+
+pub overflow_add-at-in-loop-place : goal.overflow_add-at-in-loop-place
+overflow_add-at-in-loop-place c = omega (arith, inside ((goal.at.overflow_add-at-in-loop-place c).Else-used-at))
+
+pub bounds-register-at : goal.bounds-register-at
+bounds-register-at c = omega (arith, inside ((goal.at.bounds-register-at c).Else-used-at))
+
+pub overflow_add-at-then-is_bad : goal.overflow_add-at-then-is_bad
+overflow_add-at-then-is_bad c = omega (arith, inside ((goal.at.overflow_add-at-then-is_bad c).Else-used-at))
+
+pub overflow_add-at-in-lines : goal.overflow_add-at-in-lines
+overflow_add-at-in-lines c = omega (arith, inside ((goal.at.overflow_add-at-in-lines c).Else-used-at))
+
+-- at a place past the number's the number is right
+right : (c : Else-place-wrong) → figure_width ≤ c.loop-place.place
+    → c.is_wrong_number-wrong.result ≡ false
+right c = right_next c.loop-place.place _ c.if-place-wrong.false c.loop-place.invariant.2
+
+pub loop-place-preserved : goal.loop-place-preserved
+unfolding text_length
+loop-place-preserved c =
+    let e = c in
+    let p = e.loop-place in
+    let l = e in (
+      omega arith,
+      good_more line_layout number_inside l.args.register.now l.lines.at p.place e.loop-place-test.true p.invariant.1
+          (sym c.is_bad.ensures ∙ c.if-is_bad.false),
+      λ h. right ((goal.at.loop-place-preserved c).Else-place-wrong) (omega arith),
+    )
+
+pub lines-preserved : goal.lines-preserved
+unfolding text_length
+lines-preserved c =
+    let j = c in
+    let w = j in
+    let n = w in
+    let l = n in
+    let s = l.args.register.now in
+    let on = left_on line_layout number_inside s l.lines.invariant n.if-used-at.false n.line_number-number.result n.line_number-number.ensures in
+    rw c.following_number-expected.ensures
+    (elim j.if-wrong-whole.branch [ then-wrong-whole+else-loop-place-test b ↦ let all : b.loop-place.place ≡ lineSize = omega arith in
+    on (rw all at b.loop-place.invariant.1) (sym w.is_wrong_number-wrong.ensures ∙ b.loop-place.invariant.2 (omega arith)) refl | else-wrong-whole b ↦ on
+    (good_whole line_layout number_inside s l.lines.at j.has_layout-whole.result (omega (arith, inside ((goal.at.lines-preserved c).Else-used-at))) j.has_layout-whole.ensures
+    (not-false _ (or_right w.is_wrong_number-wrong.result (not j.has_layout-whole.result) b.if-wrong-whole.false)))
+    (sym w.is_wrong_number-wrong.ensures ∙ or_left w.is_wrong_number-wrong.result (not j.has_layout-whole.result) b.if-wrong-whole.false) refl ])
+
+pub returns-then-used-at : goal.returns-then-used-at
+returns-then-used-at c =
+    let d = left_done line_layout number_inside _ c.lines.invariant c.if-used-at.true in
+    record { checked = sym d.0; numbered = λ _. sym d.1 }
+
+pub returns-then-place-wrong : goal.returns-then-place-wrong
+returns-then-place-wrong c =
+    let t = c in
+    let p = t.loop-place in
+    let w = t in
+    let l = w in
+    let here : p.place ≡ figure_width =
+    eqb-true p.place figure_width (and_left (eqb p.place figure_width) w.is_wrong_number-wrong.result t.if-place-wrong.true)
+    in
+    scanned_unsound c.unsound.ensures
+    (stop_number line_layout number_inside _ l.lines.invariant w.if-used-at.false _ w.line_number-number.ensures (rw here at p.invariant.1)
+    (sym w.is_wrong_number-wrong.ensures ∙ and_right (eqb p.place figure_width) w.is_wrong_number-wrong.result t.if-place-wrong.true))
+
+pub returns-then-is_bad : goal.returns-then-is_bad
+unfolding text_length
+returns-then-is_bad c =
+    let e = c in
+    let p = e.loop-place in
+    let w = e in
+    let l = w in
+    scanned_unsound c.unsound-then-is_bad.ensures
+    (stop_character line_layout number_inside _ l.lines.invariant w.if-used-at.false _ w.line_number-number.ensures p.place e.loop-place-test.true p.invariant.1
+    (sym c.is_bad.ensures ∙ c.if-is_bad.true) (λ h. sym w.is_wrong_number-wrong.ensures ∙ right ((goal.at.returns-then-is_bad c).Else-place-wrong) h))

@@ -1,0 +1,15 @@
+-- `write_header` writes the bytes of the header's figures one after the other.
+use mathlib.Core.Path.{refl}
+use borrow.Author.Rules.{rules}
+use Rattle.register.specs.Line.{figures_of}
+use Rattle.register.proofs.LineLoop.{three_written}
+use Rattle.register.proofs.layout.write_header.Goals as goal
+
+pub returns : goal.returns
+unfolding figures_of
+returns c =
+    let third = c in
+    let second = third in
+    let first = second in
+    three_written _ _ _ _ _ _ _ _ _ _ refl refl first.write_bytes.ensures second.write_bytes-2.ensures
+    third.write_bytes-3.ensures

@@ -1,0 +1,23 @@
+-- `read_allowance_used` is the definition `allowance_used_at`: the number where the line goes on, and nothing where it ends.
+use mathlib.Core.Path.{◌∙◌, sym}
+use native.Mathlib.Omega.{arith}
+use borrow.Author.Tests.{lt-ltb, le-ltb}
+use Rattle.split.specs.Case.{allowance_used_at}
+use Rattle.split.proofs.case.read_allowance_used.Goals as goal
+
+pub number-used-requires : goal.number-used-requires
+number-used-requires c = omega (arith, c.requires.0 c.if-at-characters.true, c.requires.1)
+
+pub returns-then-at-characters : goal.returns-then-at-characters
+unfolding allowance_used_at
+returns-then-at-characters c =
+    let start = c in
+    λ s bytes within.
+    rw (lt-ltb start.args.at.at start.args.characters c.if-at-characters.true)
+    (c.number-used.ensures.value s bytes (omega (arith, c.number-used.ensures.next, start.requires.0 c.if-at-characters.true)))
+
+pub returns : goal.returns
+unfolding allowance_used_at
+returns c =
+    let start = c in
+    λ s bytes within. rw (le-ltb start.args.at.at start.args.characters c.if-at-characters.false)

@@ -1,0 +1,12 @@
+-- `read_service` is the definition `service_at`, date by date.
+use native.Mathlib.Omega.{arith}
+use Rattle.split.specs.Case.{service_at}
+use Rattle.split.proofs.BytesLaws.{made_of, ◌then◌}
+use Rattle.split.proofs.case.read_service.Goals as goal
+
+pub returns : goal.returns
+unfolding service_at
+returns c =
+    let end = c in
+    let start = end in
+    made_of (λ s e. record { start = s; end = e }) start.date-start.ensures then end.date-end.ensures

@@ -1,0 +1,9 @@
+-- `short` is a number of 4 digits: two of 2, joined.
+use native.Mathlib.Omega.{arith}
+use Rattle.split.proofs.BytesLaws.{number_joined}
+use Rattle.split.proofs.frame.Cursor.short.Goals as goal
+
+pub returns : goal.returns
+returns c =
+    let low = c in
+    number_joined low.byte-high.ensures low.byte-low.ensures

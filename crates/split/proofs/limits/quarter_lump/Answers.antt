@@ -1,0 +1,24 @@
+-- `quarter_lump` is the definition `quarter_lump`; E is at most 80, so a quarter of it is at most 20 pensions.
+use native.Mathlib.Nat.{mul-le-mul}
+use mathlib.Core.Path.{refl}
+use native.Mathlib.Omega.{arith}
+use Rattle.split.specs.Benefits.{quarter_lump}
+use Rattle.split.proofs.BenefitsLaws.{quarter_at_most}
+use Rattle.split.proofs.limits.quarter_lump.Goals as goal
+
+pub overflow_mul-result : goal.overflow_mul-result
+overflow_mul-result c =
+    let start = c in
+    omega (arith, mul-le-mul start.requires.0 start.requires.1.top_high)
+
+pub overflow_cast-result-2 : goal.overflow_cast-result-2
+unfolding quarter_lump
+overflow_cast-result-2 c =
+    let start = c in
+    omega (arith, quarter_at_most start.args.pension.0 start.args.e start.requires.1)
+
+pub returns : goal.returns
+unfolding quarter_lump
+returns c =
+    let start = c in
+    (refl, omega (arith, quarter_at_most start.args.pension.0 start.args.e start.requires.1))

@@ -1,0 +1,96 @@
+-- `work_out` goes through the pensions one by one: the first `i` were read, judged and summed, and held where none is refused.
+use Prim.Native.Nat.{ℕ, ◌+◌, ◌-◌, ◌*◌, ◌≤◌, ◌<◌, zero-le}
+use mathlib.Core.Path.{◌≡◌, refl, ◌∙◌, ap}
+use native.Mathlib.Nat.{le_antisymm, lt_of_lt_of_le}
+use native.Mathlib.Numerals.{add-one-le}
+use native.Mathlib.Omega.{arith}
+use mir.Facts.{Fits-below}
+use Rattle.calendar.specs.Tests.{lowest}
+use Rattle.split.specs.Case.{case_length}
+use Rattle.split.specs.Conditions.{lower, pension_conditions}
+use Rattle.split.specs.Working.{columns}
+use Rattle.split.proofs.ListLoop.{fewer}
+use Rattle.split.proofs.WorkingLaws.{basis_age}
+use Rattle.split.proofs.PensionsLoop.{Gone, gone_none, one_worked, none_refused, gone_all, gone_above, gone_within}
+use Rattle.split.proofs.pensions.work_out.Goals as goal
+use Rattle.split.proofs.pensions.work_out.Goals.{After-loop-i, After-lower_of-refused, After-struct_known-1, In-loop-i}
+
+pub head_refusal-refused-requires : goal.head_refusal-refused-requires
+head_refusal-refused-requires c = basis_age _ _ c.basis_of-basis.ensures
+
+pub loop-i-init : goal.loop-i-init
+loop-i-init c =
+    let start = c in
+    (zero-le, start.requires.0, zero-le, gone_none _ _ _ _ _ c.head_refusal-refused.ensures start.requires.2)
+
+pub pension_refusal-requires : goal.pension_refusal-requires
+pension_refusal-requires c = basis_age _ _ c.basis_of-basis.ensures
+
+-- a place in the loop is one of the four
+place : (c : In-loop-i) → c.loop-i.i < 4
+place c = lt_of_lt_of_le c.loop-i-test.true c.requires.1
+
+-- the refusal so far is the lower of that of the pensions before and this one's
+judged : (c : After-lower_of-refused) → let test = c in
+    c.lower_of-refused.result ≡ lower test.loop-i.refused
+    (lowest 3 (pension_conditions test.args.head c.read_pension-read.result.value))
+judged c =
+    c.lower_of-refused.ensures
+    ∙ ap (λ (r : ℕ). lower c.loop-i.refused r) c.pension_refusal.ensures
+
+pub store_figures-requires : goal.store_figures-requires
+store_figures-requires c =
+    let chosen = c in
+    let test = chosen in (
+      none_refused _ _ _ test.loop-i.refused _ test.loop-i.stated _ test.basis_of-basis.ensures
+          (judged ((goal.at.store_figures-requires c).After-lower_of-refused)) refl,
+      place ((goal.at.store_figures-requires c).In-loop-i),
+      test.loop-i.invariant.3.four,
+    )
+
+-- the total is at most a full number for each pension
+grown : (c : After-struct_known-1) → let read = c in
+    let l = read.loop-i in
+    l.stated + read.read_pension-read.result.value.stated.0 ≤ (l.i + 1) * 4294967295
+grown c = omega arith
+
+pub loop-i-preserved : goal.loop-i-preserved
+loop-i-preserved c =
+    let stored = c in
+    let chosen = stored in
+    let read = chosen in
+    let test = read in
+    let l = test.loop-i in (
+      add-one-le test.loop-i-test.true,
+      omega (arith, read.read_pension-read.ensures.next, l.invariant.1),
+      grown ((goal.at.loop-i-preserved c).After-struct_known-1),
+      one_worked l.invariant.3 read.read_pension-read.result.value _ _ _ l.invariant.1 read.read_pension-read.ensures (judged ((goal.at.loop-i-preserved c).After-lower_of-refused))
+          refl _ _ refl (place ((goal.at.loop-i-preserved c).In-loop-i)) (stored.store_figures.ensures _ test.basis_of-basis.ensures),
+    )
+
+-- after the loop all n were gone through
+gone : (c : After-loop-i) → let l = c.loop-i in
+    let start = c in
+    Gone start.args.head start.args.bytes.now start.args.n (case_length start.args.n) l.refused l.stated
+    (columns l.pensions l.tops l.bottoms l.caps l.prices l.increases)
+gone c =
+    let l = c.loop-i in
+    gone_all l.i _ _ _ _ (le_antisymm l.invariant.0 c.loop-i-test.false) l.invariant.1 l.invariant.3
+
+-- and the cursor stands behind them
+behind : (c : After-loop-i) → c.loop-i.next.at ≡ case_length c.args.n
+behind c = let l = c.loop-i in omega (arith, l.invariant.0, c.loop-i-test.false, l.invariant.1)
+
+pub returns-then-stated-gt50000000 : goal.returns-then-stated-gt50000000
+returns-then-stated-gt50000000 c =
+    let after = c in
+    (gone_above (gone ((goal.at.returns-then-stated-gt50000000 c).After-loop-i)) _ c.if-stated-gt50000000.true c.lower_of-refused-then-stated-gt50000000.ensures, behind ((goal.at.returns-then-stated-gt50000000 c).After-loop-i))
+
+pub returns-else-stated-gt50000000 : goal.returns-else-stated-gt50000000
+returns-else-stated-gt50000000 c = (gone_within (gone ((goal.at.returns-else-stated-gt50000000 c).After-loop-i)) c.if-stated-gt50000000.false, behind ((goal.at.returns-else-stated-gt50000000 c).After-loop-i))
+
+pub overflow_add-i : goal.overflow_add-i
+overflow_add-i c = Fits-below tt (add-one-le (place ((goal.at.overflow_add-i c).In-loop-i)))
+
+pub loop-i-smaller : goal.loop-i-smaller
+loop-i-smaller c = fewer _ _ c.loop-i-test.true

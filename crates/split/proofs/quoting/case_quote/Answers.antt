@@ -1,0 +1,118 @@
+-- `case_quote` is the definition `case_quote` of the pensions that were worked out and the amount that was read behind them: what
+-- each callee asks holds of an accepted case, and their promises compose.
+use Prim.Native.Nat.{ℕ, ◌≤◌}
+use mathlib.Core.Path.{◌≡◌, refl, sym, ◌∙◌, ap}
+use native.Mathlib.Omega.{arith}
+use lib.ListN.{take}
+use Rattle.split.specs.declared.allowance.Allowance.{Allowance}
+use Rattle.split.specs.Benefits.{benefits_of}
+use Rattle.split.specs.Bytes.{FieldOf}
+use Rattle.split.specs.Case.{allowance_used_at, case_length, longest_line}
+use Rattle.split.specs.Allowance.{allowance_of}
+use Rattle.split.specs.Grant.{grant}
+use Rattle.split.proofs.Accepted.{Accepted, case_accepted}
+use Rattle.split.proofs.ReadingLaws.{RightLength, length_listed}
+use Rattle.split.proofs.RangesLaws.{lumps_small, shares_range}
+use Rattle.split.proofs.Granted.{pensions_small, price_positive, grant_worked, quote_made, case_refused, case_granted}
+use Rattle.split.proofs.quoting.case_quote.Goals as goal
+use Rattle.split.proofs.quoting.case_quote.Goals.{After-grant_of, After-read_allowance_used-used, Else-worked-ne0, Start}
+
+-- the length is a right one
+listed : (c : Start) → RightLength c.args.characters c.args.n
+listed c = length_listed _ _ c.requires.1
+
+pub work_out-worked-requires : goal.work_out-worked-requires
+work_out-worked-requires c =
+    let start = c in (
+      start.requires.0,
+      (listed ((goal.at.work_out-worked-requires c).Start)).counted.1,
+      record { pensions = refl; tops = refl; bottoms = refl; caps = refl; prices = refl; increases = refl },
+    )
+
+pub returns-then-worked-ne0 : goal.returns-then-worked-ne0
+returns-then-worked-ne0 c =
+    let worked = c in
+    let start = worked in
+    case_refused worked.work_out-worked.ensures.0 _ (listed ((goal.at.returns-then-worked-ne0 c).Start)).long _ c.if-worked-ne0.true c.refused_quote.ensures
+
+-- past the test the case is accepted
+accepted : (c : Else-worked-ne0) → let worked = c in
+    Accepted worked.args.head worked.work_out-worked.ensures.0.pensions
+accepted c = case_accepted _ _ (sym c.work_out-worked.ensures.0.judged ∙ c.if-worked-ne0.false)
+
+pub read_allowance_used-used-requires : goal.read_allowance_used-used-requires
+read_allowance_used-used-requires c =
+    let worked = c in
+    let l = listed ((goal.at.read_allowance_used-used-requires c).Start) in
+    (λ more. omega (arith, worked.work_out-worked.ensures.1, l.field (omega (arith, worked.work_out-worked.ensures.1))), omega (arith, l.short, l.counted))
+
+-- what was read behind the pensions
+used : (c : After-read_allowance_used-used) → let start = c in
+    FieldOf start.args.bytes.now start.args.characters c.read_allowance_used-used.result.0
+    (λ s. allowance_used_at s (case_length start.args.n) start.args.characters)
+used c s bytes within =
+    c.read_allowance_used-used.ensures s bytes within
+    ∙ ap (λ (at : ℕ). allowance_used_at s at c.args.characters)
+    c.work_out-worked.ensures.1
+
+pub grant_of-requires : goal.grant_of-requires
+grant_of-requires c =
+    let e = c in
+    let worked = e in
+    let few = (listed ((goal.at.grant_of-requires c).Start)).counted.1 in
+    let w = worked.work_out-worked.ensures.0 in
+    let held = w.figures e.if-worked-ne0.false in (
+      few,
+      w.four.pensions,
+      pensions_small _ w.pensions _ _ held w.four w.counted few (accepted ((goal.at.grant_of-requires c).Else-worked-ne0)),
+      w.four.prices,
+      w.four.caps,
+      price_positive _ w.pensions _ _ held w.four w.counted few,
+      refl,
+    )
+
+-- the lumps are those of the grant
+granted : (c : After-grant_of) → let read = c in
+    let worked = read in
+    let start = worked in
+    take start.args.n c.grant_of.new.lumps
+    ≡ grant (allowance_of start.args.head.commencement read.read_allowance_used-used.result.0)
+    (benefits_of start.args.head worked.work_out-worked.ensures.0.pensions)
+granted c =
+    let allowance = c in
+    let e = allowance in
+    let worked = e in
+    let start = worked in
+    let w = worked.work_out-worked.ensures.0 in
+    grant_worked _ w.pensions _ _ (w.figures e.if-worked-ne0.false) w.four w.counted (listed ((goal.at.After-grant_of c).Start)).counted.1 _ _ c.grant_of.ensures.0
+    ∙ ap (λ (a : Allowance). grant a (benefits_of start.args.head w.pensions)) allowance.allowance_of-allowance.ensures
+
+pub total_of-total-requires : goal.total_of-total-requires
+total_of-total-requires c =
+    let given = c in
+    let e = given in
+    let start = e in
+    ((listed ((goal.at.total_of-total-requires c).Start)).counted.1, given.grant_of.ensures.1, lumps_small _ _ _ (accepted ((goal.at.total_of-total-requires c).Else-worked-ne0)) _ (granted ((goal.at.total_of-total-requires c).After-grant_of)))
+
+pub shares_of-shares-requires : goal.shares_of-shares-requires
+shares_of-shares-requires c =
+    let given = c in
+    let e = given in
+    let worked = e in
+    let start = worked in
+    let w = worked.work_out-worked.ensures.0 in
+    shares_range _ _ w.pensions _ _ _ (accepted ((goal.at.shares_of-shares-requires c).Else-worked-ne0)) (w.figures e.if-worked-ne0.false) w.four w.counted (listed ((goal.at.shares_of-shares-requires c).Start)).counted.1
+    given.grant_of.ensures.1 (granted ((goal.at.shares_of-shares-requires c).After-grant_of)) given.grant_of.ensures.2
+
+pub returns : goal.returns
+returns c =
+    let summed = c in
+    let given = summed in
+    let read = given in
+    let e = read in
+    let worked = e in
+    let start = worked in
+    let w = worked.work_out-worked.ensures.0 in
+    case_granted w _ (listed ((goal.at.returns c).Start)).long _ _ e.if-worked-ne0.false (used ((goal.at.returns c).After-read_allowance_used-used))
+    (quote_made _ w.pensions _ _ (w.figures e.if-worked-ne0.false) w.four w.counted (listed ((goal.at.returns c).Start)).counted.1 _ _ _ _
+    given.grant_of.ensures.1 (granted ((goal.at.returns c).After-grant_of)) summed.total_of-total.ensures c.shares_of-shares.ensures)

@@ -1,0 +1,25 @@
+-- `head_refusal`: the first test that passes is the lowest condition.
+use mathlib.Core.Bool.{or-false}
+use mathlib.Core.Path.{◌≡◌, sym, ◌∙◌, ap}
+use native.Mathlib.Omega.{arith}
+use Rattle.split.specs.Refusal.{age_of, bad_age, conditions_with}
+use Rattle.split.proofs.refusal.head_refusal.Goals as goal
+use Rattle.split.proofs.refusal.head_refusal.Goals.{After-is_bad_age}
+
+pub returns-then-is_undated_head : goal.returns-then-is_undated_head
+unfolding conditions_with
+returns-then-is_undated_head c = simp (conditions_with, or-false, ← c.is_undated_head.ensures, c.if-is_undated_head.true)
+
+-- the age was worked out
+aged : (c : After-is_bad_age) → bad_age (age_of c.args.head) ≡ c.is_bad_age.result
+aged c = ap bad_age (sym c.requires) ∙ sym c.is_bad_age.ensures
+
+pub returns-then-is_bad_age : goal.returns-then-is_bad_age
+unfolding conditions_with
+returns-then-is_bad_age c =
+    simp (conditions_with, or-false, ← c.is_undated_head.ensures, c.if-is_undated_head.false, aged ((goal.at.returns-then-is_bad_age c).After-is_bad_age), c.if-is_bad_age.true)
+
+pub returns : goal.returns
+unfolding conditions_with
+returns c =
+    simp (conditions_with, or-false, ← c.is_undated_head.ensures, c.if-is_undated_head.false, aged ((goal.at.returns c).After-is_bad_age), c.if-is_bad_age.false)

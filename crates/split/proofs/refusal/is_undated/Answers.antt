@@ -1,0 +1,9 @@
+-- `is_undated` is the definition `undated`, by what its calls promise.
+use mathlib.Core.Bool.{not, ◌||◌}
+use native.Mathlib.Omega.{arith}
+use Rattle.split.specs.Refusal.{undated}
+use Rattle.split.proofs.refusal.is_undated.Goals as goal
+
+pub returns : goal.returns
+unfolding undated
+returns c = λ i. not (c.in_calendar.ensures i) || not (c.in_calendar-2.ensures i)

@@ -1,0 +1,25 @@
+-- `lowest_refusal`: the first test that passes is the lowest condition; those after the kind are the callee's.
+use mathlib.Core.Path.{sym, ◌∙◌}
+use native.Mathlib.Omega.{arith}
+use Rattle.split.proofs.ConditionsLaws.{pension_lowest}
+use Rattle.split.proofs.refusal.lowest_refusal.Goals as goal
+
+pub returns-then-is_undated : goal.returns-then-is_undated
+returns-then-is_undated c =
+    let s = c in
+    sym (pension_lowest s.args.head s.args.p s.args.age s.requires ∙ simp (← c.is_undated.ensures, c.if-is_undated.true))
+
+pub returns-then-is_disordered : goal.returns-then-is_disordered
+returns-then-is_disordered c =
+    let s = c in
+    sym (pension_lowest s.args.head s.args.p s.args.age s.requires ∙ simp (← c.is_undated.ensures, c.if-is_undated.false, ← c.is_disordered.ensures, c.if-is_disordered.true))
+
+pub returns-then-is_unknown_kind : goal.returns-then-is_unknown_kind
+returns-then-is_unknown_kind c =
+    let s = c in
+    sym (pension_lowest s.args.head s.args.p s.args.age s.requires ∙ simp (← c.is_undated.ensures, c.if-is_undated.false, ← c.is_disordered.ensures, c.if-is_disordered.false, ← c.is_unknown_kind.ensures, c.if-is_unknown_kind.true))
+
+pub returns : goal.returns
+returns c =
+    let s = c in
+    sym (pension_lowest s.args.head s.args.p s.args.age s.requires ∙ simp (← c.is_undated.ensures, c.if-is_undated.false, ← c.is_disordered.ensures, c.if-is_disordered.false, ← c.is_unknown_kind.ensures, c.if-is_unknown_kind.false, c.terms_refusal.ensures))

@@ -1,0 +1,20 @@
+-- `unread_quote` is the definition `quote_of` of a line of no right length: the characters first, then the length.
+use mathlib.Core.Path.{refl, sym, ◌∙◌}
+use native.Mathlib.Omega.{arith}
+use Rattle.split.specs.Case.{head_of}
+use Rattle.split.proofs.ReadingLaws.{refused_character, refused_length}
+use Rattle.split.proofs.QuoteLaws.{quote_refused}
+use Rattle.split.proofs.unread_quote.Goals as goal
+
+pub returns-then-has_bad_character : goal.returns-then-has_bad_character
+returns-then-has_bad_character c =
+    quote_refused _ 1 _ (λ e. omega arith)
+    (refused_character _ (sym c.has_bad_character.ensures ∙ c.if-has_bad_character.true)) c.refused_quote.ensures
+
+pub returns : goal.returns
+returns c =
+    let start = c in
+    quote_refused _ 2 _ (λ e. omega arith)
+    (refused_length _ (head_of start.args.line.now) (sym c.has_bad_character.ensures ∙ c.if-has_bad_character.false) refl
+    (start.requires _))
+    c.refused_quote-2.ensures
