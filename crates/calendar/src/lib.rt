@@ -1,5 +1,6 @@
 // Dates: whether they are in the calendar and what is wrong with them if not, their order, and the months between them.
 #![tactic(auto)]
+
 ghost use Rattle.std.specs.Prelude.{◌≡◌, ◌+◌, ◌*◌, ◌≤◌};
 ghost use Rattle.calendar.specs.Calendar.{date, leap, month_length, length_in, date_fault, in_calendar, common_date, earlier, last_day, incomplete, months, sixtieth_birthday};
 

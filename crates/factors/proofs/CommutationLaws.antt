@@ -4,7 +4,6 @@ use mathlib.Core.Bool.{Bool, true, false, ◌&&◌}
 use Prim.Native.Nat.{ℕ, ◌-◌, ◌≤◌}
 use native.Mathlib.Omega.{arith}
 use lib.Dec.{leb, eqb}
-use lib.ListN.{get_or-eq_default}
 use borrow.Author.Tests.{le-leb, eqb-true, eqb-false}
 use Rattle.calendar.proofs.TestsLaws.{within_bounds}
 use Rattle.factors.specs.Commutation.{table1, commutation_factor, straight_line, year_values}

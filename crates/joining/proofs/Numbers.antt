@@ -1,7 +1,7 @@
 -- Lines by their numbers: the first of those cut from a register begins its bytes; the first number of sound lines is at least 1, a
 -- number from it on is at its distance from it, and the number behind them is the first plus their count; and lines with good
 -- characters whose numbers rise by one check sound. By induction on the lines. Assumes nothing.
-use Prim.Native.Nat.{ℕ, zero, suc, ◌+◌, ◌-◌, ◌/◌, ◌≤◌, ◌<◌}
+use Prim.Native.Nat.{ℕ, suc, ◌+◌, ◌-◌, ◌/◌, ◌≤◌, ◌<◌}
 use mathlib.Core.Bool.{true, false, true≢false}
 use mathlib.Core.List.{List, [], ◌∷◌}
 use mathlib.Core.Path.{◌≡◌, refl, sym, ◌∙◌, ap}

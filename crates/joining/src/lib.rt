@@ -1,6 +1,7 @@
 // Joining two registers whose numbers meet or overlap into a third buffer. Nothing is written before every refusal is decided, and
 // the registers are compared and copied by whole parts: their numbers rise by one, so the first of each tells which lines both have.
 #![tactic(auto)]
+
 ghost use Rattle.std.specs.Prelude.{◌≡◌, not, min, ◌++◌, length};
 ghost use Rattle.register.specs.Layout.{lent, used_lines};
 ghost use Rattle.joining.specs.Join.{first_number, same_characters, refused_answer, join_step};

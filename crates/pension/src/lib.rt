@@ -1,6 +1,7 @@
 // The C interface: quoting, checking, filing, finding, joining, trivial commutation and the fault of a date under their C names, with
 // the same promises. A slice passes as a pointer and a length. host/include/pension.h declares these for C.
 #![tactic(auto)]
+
 mod answers;
 
 ghost use Rattle.std.specs.Prelude.{◌≡◌, length, take, drop};

@@ -19,10 +19,9 @@ use Rattle.split.proofs.HexLaws.{hex_length, hex_good, hex_back, number_same, nu
 use Rattle.register.specs.Line.{figure_width, member_place, number_in, member_in}
 use Rattle.register.specs.declared.answers.Checked.{Checked}
 use Rattle.register.specs.declared.answers.Located.{Located}
-use Rattle.register.specs.declared.answers.LocatedMember.{LocatedMember}
 use Rattle.register.specs.Layout.{Register, Layout, length_of, cut_lines, used_lines_by}
 use Rattle.register.specs.Check.{check_lines_by, check_by}
-use Rattle.register.specs.Find.{last_place, has_member, locate_by, newer_lines, with_found, lines_compared, compared_by, locate_member_by}
+use Rattle.register.specs.Find.{last_place, has_member, locate_by, newer_lines, with_found, lines_compared, locate_member_by}
 use Rattle.register.specs.Scan.{DigitsAt, LastAt, placed_by}
 use Rattle.register.proofs.LayoutLaws.{line_at, cut_count, cut_at, cut_snoc}
 use Rattle.register.proofs.CheckLaws.{sound_good, check_sound}

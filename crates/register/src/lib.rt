@@ -1,5 +1,6 @@
 // The register: quotes filed as numbered lines in lent bytes, checked and found again.
 #![tactic(auto)]
+
 pub mod answers;
 mod checking;
 mod filing;

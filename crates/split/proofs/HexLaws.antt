@@ -97,7 +97,6 @@ number-more : (s : List ℕ) (at n : ℕ) → number_at s at (suc n) ≡ number_
 unfolding number_at
 number-more s at n = refl
 
-
 -- what is written behind any text is read back from there
 pub hex_back : (pre rest : List ℕ) (n x : ℕ) → x < 16 ^ n → number_at (pre ++ (hex_text n x ++ rest)) (length pre) n ≡ x
 hex_back pre rest zero x h = omega (arith, number_none (pre ++ (hex_text zero x ++ rest)) (length pre))

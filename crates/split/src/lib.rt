@@ -1,5 +1,6 @@
 // The split: from the bytes of a case line to its refusal or its quote.
 #![tactic(auto)]
+
 mod allowance;
 pub mod answers;
 mod case;

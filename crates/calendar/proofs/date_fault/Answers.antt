@@ -1,5 +1,4 @@
 -- `date_fault` is the definition `date_fault`, test by test.
-use borrow.Author.Rules.{rules}
 use Rattle.calendar.specs.Calendar.{day_in, month_in, year_in, broken_tests, date_fault}
 use Rattle.calendar.proofs.date_fault.Goals as goal
 

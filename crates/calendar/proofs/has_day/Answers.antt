@@ -1,5 +1,4 @@
 -- `has_day`: a day of every year, 29 February, or no day.
-use borrow.Author.Rules.{rules}
 use mathlib.Core.Path.{sym}
 use Rattle.calendar.proofs.CalendarLaws.{usual_day, leap_day, no_day}
 use Rattle.calendar.proofs.has_day.Goals as goal

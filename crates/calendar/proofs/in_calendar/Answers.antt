@@ -1,5 +1,4 @@
 -- `in_calendar`: a date of every year, or one without a fault.
-use borrow.Author.Rules.{rules}
 use mathlib.Core.Path.{sym, ◌∙◌}
 use Rattle.calendar.proofs.CalendarLaws.{common_in, fault_none}
 use Rattle.calendar.proofs.in_calendar.Goals as goal

@@ -1,5 +1,4 @@
 -- `is_common_date` is the definition `common_date`, test by test.
-use borrow.Author.Rules.{rules}
 use Rattle.calendar.specs.Calendar.{year_in, common_date}
 use Rattle.calendar.proofs.is_common_date.Goals as goal
 

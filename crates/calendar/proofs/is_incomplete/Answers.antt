@@ -1,5 +1,4 @@
 -- `is_incomplete` is the definition `incomplete`.
-use borrow.Author.Rules.{rules}
 use Rattle.calendar.specs.Calendar.{incomplete}
 use Rattle.calendar.proofs.is_incomplete.Goals as goal
 

@@ -1,5 +1,4 @@
 -- `is_last_day` is the definition `last_day`.
-use borrow.Author.Rules.{rules}
 use Rattle.calendar.specs.Calendar.{last_day}
 use Rattle.calendar.proofs.CalendarLaws.{day_after}
 use Rattle.calendar.proofs.is_last_day.Goals as goal

@@ -1,8 +1,6 @@
 -- `months_to` is the definition `months`: what the last month takes off the difference is added to what is taken off.
 use mathlib.Core.Path.{◌≡◌}
 use mathlib.Core.Bool.{cond}
-use mathlib.Core.Logic.{⊎_elim}
-use borrow.Author.Rules.{rules}
 use native.Mathlib.Omega.{arith}
 use Rattle.calendar.specs.Calendar.{date, incomplete, months, month_index}
 use Rattle.calendar.proofs.months_to.Goals as goal

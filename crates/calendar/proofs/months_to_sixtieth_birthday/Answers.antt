@@ -1,5 +1,4 @@
 -- `months_to_sixtieth_birthday` is the definition `months` at the bare triple of the birthday.
-use borrow.Author.Rules.{rules}
 use Rattle.calendar.specs.Calendar.{sixtieth_birthday}
 use Rattle.calendar.proofs.months_to_sixtieth_birthday.Goals as goal
 

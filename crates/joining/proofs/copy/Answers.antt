@@ -1,9 +1,7 @@
 -- `copy` leaves the characters that it read: those before its place are copied, and those from it on are as they were.
-use Prim.Native.Nat.{◌-◌, ◌≤◌}
-use mathlib.Core.List.{◌++◌}
-use mathlib.Core.Path.{◌≡◌, refl, ◌∙◌}
+use mathlib.Core.Path.{refl, ◌∙◌}
 use native.Mathlib.Omega.{arith}
-use lib.ListN.{length, take, drop, length-set}
+use lib.ListN.{length-set}
 use Rattle.joining.proofs.Copied.{copied_more, copied_all}
 use Rattle.joining.proofs.copy.Goals as goal
 

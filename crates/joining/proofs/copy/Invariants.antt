@@ -1,10 +1,8 @@
 -- `copy` leaves the characters that it read: those before its place are copied, and those from it on are as they were.
 use Prim.Native.Nat.{◌-◌, ◌≤◌}
 use mathlib.Core.List.{◌++◌}
-use mathlib.Core.Path.{◌≡◌, refl, ◌∙◌}
-use native.Mathlib.Omega.{arith}
-use lib.ListN.{length, take, drop, length-set}
-use Rattle.joining.proofs.Copied.{copied_more, copied_all}
+use mathlib.Core.Path.{◌≡◌}
+use lib.ListN.{length, take, drop}
 use Rattle.joining.proofs.copy.Given as goal
 
 abbrev pub invariant-loop-i : goal.invariant-loop-i

@@ -1,6 +1,5 @@
 -- `first_number` is the definition `first_number` of the used lines: the first of them, where there is one, begins the register.
 use mathlib.Core.Path.{sym, ◌∙◌}
-use native.Mathlib.Omega.{arith}
 use borrow.Author.Rules.{rules}
 use Rattle.register.specs.Line.{text_length}
 use Rattle.joining.proofs.Numbers.{no_first, first_read}

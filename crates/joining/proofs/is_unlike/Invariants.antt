@@ -1,11 +1,9 @@
 -- `is_unlike` tells whether characters differ: what the whole parts answer, the flag and the rest from `i` on answer.
 use Prim.Native.Nat.{◌-◌, ◌≤◌}
 use mathlib.Core.Bool.{not, ◌||◌}
-use mathlib.Core.Path.{◌≡◌, refl}
+use mathlib.Core.Path.{◌≡◌}
 use lib.ListN.{length, drop}
-use borrow.Author.Rules.{rules}
 use Rattle.joining.specs.Join.{same_characters}
-use Rattle.joining.proofs.JoinLaws.{unlike_more, unlike_all}
 use Rattle.joining.proofs.is_unlike.Given as goal
 
 abbrev pub invariant-loop-i : goal.invariant-loop-i

@@ -1,7 +1,6 @@
 -- `join` is the definition `join_step`: both are checked, and the one that begins first is joined with the other, in either order.
 use mathlib.Core.Path.{◌≡◌, refl, sym, ◌∙◌, ap}
 use native.Mathlib.Omega.{arith}
-use borrow.Author.Rules.{rules}
 use Rattle.register.specs.declared.answers.Checked.{Checked}
 use Rattle.register.specs.Layout.{Register, lent}
 use Rattle.register.specs.Check.{check_of}

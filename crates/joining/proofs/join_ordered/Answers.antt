@@ -2,7 +2,6 @@
 -- the first is written and behind it the lines of the second that it does not have.
 use mathlib.Core.Path.{sym, ◌∙◌}
 use native.Mathlib.Omega.{arith}
-use borrow.Author.Rules.{rules}
 use Rattle.register.specs.Line.{text_length}
 use Rattle.joining.proofs.Ordered.{both_inside, gap_refused, unlike_refused, alike_written}
 use Rattle.joining.proofs.PartsLaws.{same_step}

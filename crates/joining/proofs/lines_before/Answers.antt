@@ -1,5 +1,4 @@
 -- `lines_before` is the definition `lines_before`: 0 where the first has no first number, and else the difference.
-use native.Mathlib.Omega.{arith}
 use Rattle.joining.proofs.PartsLaws.{before_none, before_some}
 use Rattle.joining.proofs.lines_before.Goals as goal
 

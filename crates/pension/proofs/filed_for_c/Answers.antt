@@ -1,6 +1,5 @@
 -- `filed_for_c` is the definition `filed_for_c`, field by field.
 use mathlib.Core.Path.{refl}
-use native.Mathlib.Omega.{arith}
 use Rattle.pension.specs.Interface.{filed_for_c}
 use Rattle.pension.proofs.filed_for_c.Goals as goal
 

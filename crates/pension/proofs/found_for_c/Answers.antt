@@ -1,6 +1,5 @@
 -- `found_for_c` is the definition `found_for_c`, field by field.
 use mathlib.Core.Path.{refl}
-use native.Mathlib.Omega.{arith}
 use Rattle.pension.specs.Interface.{found_for_c}
 use Rattle.pension.proofs.found_for_c.Goals as goal
 

@@ -1,5 +1,4 @@
 -- `found_member_for_c` is the definition `found_member_for_c`: the line as `found_for_c` gives it, and the count.
-use native.Mathlib.Omega.{arith}
 use Rattle.pension.specs.Interface.{found_for_c, found_member_for_c}
 use Rattle.pension.proofs.found_member_for_c.Goals as goal
 

@@ -1,6 +1,5 @@
 -- `pension_check` gives what the engine's `check` found, field by field.
 use mathlib.Core.Path.{ap}
-use native.Mathlib.Omega.{arith}
 use Rattle.pension.specs.Interface.{checked_for_c}
 use Rattle.pension.proofs.pension_check.Goals as goal
 

@@ -1,6 +1,5 @@
 -- `pension_file` gives what the engine's `file` answered, and leaves the bytes that it left.
 use mathlib.Core.Path.{◌∙◌, ap}
-use native.Mathlib.Omega.{arith}
 use Rattle.pension.specs.Interface.{filed_for_c}
 use Rattle.pension.proofs.pension_file.Goals as goal
 

@@ -1,5 +1,4 @@
 -- `pension_file_lines` gives what the engine's `file_lines` answered, and leaves the bytes that it left.
-use native.Mathlib.Omega.{arith}
 use Rattle.pension.proofs.pension_file_lines.Goals as goal
 
 pub returns : goal.returns

@@ -1,5 +1,4 @@
 -- `pension_find_member` gives what the engine's `locate_member` found, which is where the line's bytes are.
-use native.Mathlib.Omega.{arith}
 use Rattle.pension.proofs.InterfaceLaws.{member_bytes}
 use Rattle.pension.proofs.pension_find_member.Goals as goal
 

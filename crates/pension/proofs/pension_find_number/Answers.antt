@@ -1,5 +1,4 @@
 -- `pension_find_number` gives where the engine's `locate_number` found the line, which is where its bytes are.
-use native.Mathlib.Omega.{arith}
 use Rattle.pension.proofs.InterfaceLaws.{found_bytes}
 use Rattle.pension.proofs.pension_find_number.Goals as goal
 

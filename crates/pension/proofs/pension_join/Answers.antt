@@ -1,6 +1,5 @@
 -- `pension_join` gives what the engine's `join` answered, and leaves the bytes that it left.
 use mathlib.Core.Path.{ap}
-use native.Mathlib.Omega.{arith}
 use Rattle.pension.specs.Interface.{written_for_c}
 use Rattle.pension.proofs.pension_join.Goals as goal
 

@@ -1,6 +1,5 @@
 -- `pension_quote` gives the engine's quote, field by field; a quote has four shares.
 use mathlib.Core.Path.{◌∙◌, ap}
-use native.Mathlib.Omega.{arith}
 use lib.ListN.{length}
 use Rattle.split.specs.declared.answers.Quote.{Quote}
 use Rattle.split.proofs.QuoteLaws.{quote_fits}

@@ -1,6 +1,5 @@
 -- `pension_trivial_commutation` gives what the engine's `commute` answered, field by field.
 use mathlib.Core.Path.{ap}
-use native.Mathlib.Omega.{arith}
 use Rattle.pension.specs.Interface.{commuted_for_c}
 use Rattle.pension.proofs.pension_trivial_commutation.Goals as goal
 

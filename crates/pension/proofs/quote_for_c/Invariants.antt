@@ -1,11 +1,7 @@
 -- `quote_for_c` is the definition `quote_for_c`: the figures of the first `i` shares are stored, for any `i`.
 use Prim.Native.Nat.{◌-◌, ◌≤◌}
-use mathlib.Core.Path.{refl}
-use native.Mathlib.Omega.{arith}
 use Rattle.split.specs.declared.answers.Share.{Share}
-use Rattle.split.specs.Quote.{no_share}
-use Rattle.pension.specs.Interface.{quote_for_c}
-use Rattle.pension.proofs.InterfaceLaws.{Filled, filled_more, filled_all}
+use Rattle.pension.proofs.InterfaceLaws.{Filled}
 use Rattle.pension.proofs.quote_for_c.Given as goal
 
 abbrev pub invariant-loop-i : goal.invariant-loop-i

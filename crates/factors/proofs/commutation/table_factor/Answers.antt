@@ -1,5 +1,4 @@
 -- `table_factor` is Table 1: antt computes the rule of the straight line at each of the 240 entries.
-use borrow.Author.Rules.{rules}
 use borrow.Author.Tests.{le-leb, lt-leb}
 use mathlib.Core.Path.{sym, ◌∙◌}
 use Prim.Native.Nat.{◌-◌}

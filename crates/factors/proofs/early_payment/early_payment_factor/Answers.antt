@@ -1,5 +1,4 @@
 -- `early_payment_factor` is Table A: each entry is the document's, and past the table it is 0.
-use borrow.Author.Rules.{rules}
 use mathlib.Core.Path.{refl, sym}
 use lib.ListN.{get_or-eq_default}
 use Rattle.factors.specs.EarlyPayment.{early_payment_factor, table_a}

@@ -4,7 +4,6 @@ use native.Mathlib.Omega.{arith}
 use native.Mathlib.Nat.{mul-le-mul_left, le_of_lt}
 use Rattle.factors.specs.EarlyPayment.{reduced_pension}
 use Rattle.factors.proofs.EarlyPaymentLaws.{early_payment_below}
-use borrow.Author.Rules.{rules}
 use Rattle.factors.proofs.early_payment.reduced_pension.Goals as goal
 use Rattle.factors.proofs.early_payment.reduced_pension.Goals.{After-early_payment_factor-factor}
 

@@ -1,10 +1,8 @@
 -- `effective_factor` is a multiple of E, by the law of the terms with the F1 and the increase that were chosen.
 use mathlib.Core.Path.{◌≡◌}
 use mathlib.Core.Bool.{cond, ◌||◌}
-use mathlib.Core.Logic.{⊎_elim}
 use lib.Dec.{eqb}
 use Rattle.factors.proofs.EffectiveLaws.{multiple_made}
-use borrow.Author.Rules.{rules}
 use borrow.Author.Tests.{ne_eqb}
 use Rattle.factors.proofs.effective.effective_factor.Goals as goal
 use Rattle.factors.proofs.effective.effective_factor.Goals.{Joined-first_or_second, Joined-second, else-first_or_second, else-second, then-first_or_second, then-second}

@@ -1,5 +1,4 @@
 -- `lump_bottom` is D.
-use borrow.Author.Rules.{rules}
 use Rattle.factors.specs.Effective.{lump_bottom}
 use Rattle.factors.proofs.effective.lump_bottom.Goals as goal
 

@@ -1,5 +1,4 @@
 -- `lump_top` is N; its two products are small.
-use borrow.Author.Rules.{rules}
 use native.Mathlib.Omega.{arith}
 use Rattle.factors.specs.Effective.{lump_top}
 use Rattle.factors.proofs.effective.lump_top.Goals as goal

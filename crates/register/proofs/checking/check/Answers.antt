@@ -1,5 +1,4 @@
 -- `check` tells of what `scan` finds the refusal and the offset.
-use borrow.Author.Rules.{rules}
 use Rattle.register.proofs.checking.check.Goals as goal
 
 pub returns : goal.returns

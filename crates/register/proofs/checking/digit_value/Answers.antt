@@ -1,6 +1,5 @@
 -- `digit_value` is a digit's value by the arithmetic of its character.
 use native.Mathlib.Omega.{arith}
-use borrow.Author.Rules.{rules}
 use Rattle.split.proofs.FrameLaws.{digit_worth}
 use Rattle.register.proofs.checking.digit_value.Goals as goal
 

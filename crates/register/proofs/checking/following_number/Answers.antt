@@ -1,6 +1,5 @@
 -- `following_number` is the definition `following`, as it stands.
 use mathlib.Core.Path.{refl}
-use borrow.Author.Rules.{rules}
 use Rattle.register.specs.Check.{following}
 use Rattle.register.proofs.checking.following_number.Goals as goal
 

@@ -4,7 +4,6 @@ use mathlib.Core.Path.{ap}
 use native.Mathlib.Omega.{arith}
 use lib.Dec.{eqb}
 use lib.ListN.{get_or}
-use borrow.Author.Rules.{rules}
 use Rattle.register.specs.Line.{text_length}
 use Rattle.register.proofs.CheckLoop.{spans_judged}
 use Rattle.register.proofs.checking.has_layout.Goals as goal

@@ -1,5 +1,4 @@
 -- `is_bad` is a digit's test before the newline's place and the newline's test at it: each branch by its own test.
-use borrow.Author.Rules.{rules}
 use borrow.Author.Tests.{lt-ltb, le-ltb}
 use Rattle.split.proofs.HexLaws.{no_digit}
 use Rattle.register.specs.Line.{text_length}

@@ -1,8 +1,7 @@
 -- `line_number` works the number out a digit at a time: the first `i` characters make the value where they are digits.
-use Prim.Native.Nat.{◌-◌, ◌<◌}
+use Prim.Native.Nat.{◌<◌}
 use native.Mathlib.Omega.{arith}
-use Rattle.register.specs.Line.{figure_width}
-use Rattle.register.proofs.CheckLoop.{FigureRead, read_none, read_room, read_more, read_all}
+use Rattle.register.proofs.CheckLoop.{read_none, read_room, read_more, read_all}
 use Rattle.register.proofs.checking.line_number.Goals as goal
 use Rattle.register.proofs.checking.line_number.Goals.{In-loop-i}
 

@@ -1,8 +1,7 @@
 -- `line_number` works the number out a digit at a time: the first `i` characters make the value where they are digits.
-use Prim.Native.Nat.{◌-◌, ◌<◌}
-use native.Mathlib.Omega.{arith}
+use Prim.Native.Nat.{◌-◌}
 use Rattle.register.specs.Line.{figure_width}
-use Rattle.register.proofs.CheckLoop.{FigureRead, read_none, read_room, read_more, read_all}
+use Rattle.register.proofs.CheckLoop.{FigureRead}
 use Rattle.register.proofs.checking.line_number.Given as goal
 
 abbrev pub invariant-loop-i : goal.invariant-loop-i

@@ -1,6 +1,5 @@
 -- `scan` finds what the check finds: a bad used length by itself, else what the lines give.
 use mathlib.Core.Path.{sym, ◌∙◌}
-use borrow.Author.Rules.{rules}
 use Rattle.register.specs.Layout.{line_layout}
 use Rattle.register.specs.Check.{check_by}
 use Rattle.register.proofs.CheckLaws.{used_sound}

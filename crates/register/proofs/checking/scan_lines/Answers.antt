@@ -1,9 +1,8 @@
 -- `scan_lines` finds what the check of the lines finds: the lines from `at` on answer for all; a line that passes the tests of its
 -- number and of all its characters has no fault, and of any other the characters before `place` are good.
-use Prim.Native.Nat.{ℕ, ◌+◌, ◌-◌, ◌≤◌, ◌<◌}
+use Prim.Native.Nat.{◌+◌, ◌≤◌}
 use mathlib.Core.Bool.{false, not}
 use mathlib.Core.Path.{◌≡◌, refl, sym, ◌∙◌}
-use mathlib.Core.Logic.{⊎_elim}
 use native.Mathlib.Omega.{arith}
 use lib.Dec.{eqb}
 use lib.ListN.{length-take, length-drop}
@@ -11,9 +10,8 @@ use borrow.Author.Tests.{eqb-true, not-false}
 use Rattle.calendar.proofs.TestsLaws.{and_left, and_right, or_left, or_right}
 use Rattle.register.specs.Line.{figure_width, text_length}
 use Rattle.register.specs.Layout.{line_layout}
-use Rattle.register.proofs.LayoutLaws.{line_at}
-use Rattle.register.proofs.CheckLaws.{number_inside, Good}
-use Rattle.register.proofs.CheckLoop.{right_next, good_more, good_whole, Left, left_start, left_done, left_inside, stop_number, stop_character, left_on, scanned_unsound}
+use Rattle.register.proofs.CheckLaws.{number_inside}
+use Rattle.register.proofs.CheckLoop.{right_next, good_more, good_whole, left_start, left_done, left_inside, stop_number, stop_character, left_on, scanned_unsound}
 use Rattle.register.proofs.checking.scan_lines.Invariants.{lineSize}
 use Rattle.register.proofs.checking.scan_lines.Goals as goal
 use Rattle.register.proofs.checking.scan_lines.Goals.{Else-place-wrong, Else-used-at, else-wrong-whole, then-wrong-whole+else-loop-place-test}
@@ -81,11 +79,14 @@ lines-preserved c =
     let s = l.args.register.now in
     let on = left_on line_layout number_inside s l.lines.invariant n.if-used-at.false n.line_number-number.result n.line_number-number.ensures in
     rw c.following_number-expected.ensures
-    (elim j.if-wrong-whole.branch [ then-wrong-whole+else-loop-place-test b ↦ let all : b.loop-place.place ≡ lineSize = omega arith in
-    on (rw all at b.loop-place.invariant.1) (sym w.is_wrong_number-wrong.ensures ∙ b.loop-place.invariant.2 (omega arith)) refl | else-wrong-whole b ↦ on
-    (good_whole line_layout number_inside s l.lines.at j.has_layout-whole.result (omega (arith, inside ((goal.at.lines-preserved c).Else-used-at))) j.has_layout-whole.ensures
-    (not-false _ (or_right w.is_wrong_number-wrong.result (not j.has_layout-whole.result) b.if-wrong-whole.false)))
-    (sym w.is_wrong_number-wrong.ensures ∙ or_left w.is_wrong_number-wrong.result (not j.has_layout-whole.result) b.if-wrong-whole.false) refl ])
+    (elim j.if-wrong-whole.branch [
+      | then-wrong-whole+else-loop-place-test b ↦ let all : b.loop-place.place ≡ lineSize = omega arith in
+          on (rw all at b.loop-place.invariant.1) (sym w.is_wrong_number-wrong.ensures ∙ b.loop-place.invariant.2 (omega arith)) refl
+      | else-wrong-whole b ↦ on
+          (good_whole line_layout number_inside s l.lines.at j.has_layout-whole.result (omega (arith, inside ((goal.at.lines-preserved c).Else-used-at))) j.has_layout-whole.ensures
+          (not-false _ (or_right w.is_wrong_number-wrong.result (not j.has_layout-whole.result) b.if-wrong-whole.false)))
+          (sym w.is_wrong_number-wrong.ensures ∙ or_left w.is_wrong_number-wrong.result (not j.has_layout-whole.result) b.if-wrong-whole.false) refl
+    ])
 
 pub returns-then-used-at : goal.returns-then-used-at
 returns-then-used-at c =

@@ -1,19 +1,13 @@
 -- `scan_lines` finds what the check of the lines finds: the lines from `at` on answer for all; a line that passes the tests of its
 -- number and of all its characters has no fault, and of any other the characters before `place` are good.
-use Prim.Native.Nat.{ℕ, ◌+◌, ◌-◌, ◌≤◌, ◌<◌}
-use mathlib.Core.Bool.{false, not}
-use mathlib.Core.Path.{◌≡◌, refl, sym, ◌∙◌}
-use mathlib.Core.Logic.{⊎_elim}
-use native.Mathlib.Omega.{arith}
-use lib.Dec.{eqb}
-use lib.ListN.{length-take, length-drop}
-use borrow.Author.Tests.{eqb-true, not-false}
-use Rattle.calendar.proofs.TestsLaws.{and_left, and_right, or_left, or_right}
-use Rattle.register.specs.Line.{figure_width, text_length}
+use Prim.Native.Nat.{ℕ, ◌-◌, ◌≤◌, ◌<◌}
+use mathlib.Core.Bool.{false}
+use mathlib.Core.Path.{◌≡◌}
+use Rattle.register.specs.Line.{figure_width}
 use Rattle.register.specs.Layout.{line_layout}
 use Rattle.register.proofs.LayoutLaws.{line_at}
 use Rattle.register.proofs.CheckLaws.{number_inside, Good}
-use Rattle.register.proofs.CheckLoop.{right_next, good_more, good_whole, Left, left_start, left_done, left_inside, stop_number, stop_character, left_on, scanned_unsound}
+use Rattle.register.proofs.CheckLoop.{Left}
 use Rattle.register.proofs.checking.scan_lines.Given as goal
 
 -- a line's length as the code has it

@@ -1,6 +1,5 @@
 -- `file` is the definition `file_step`: by the case's refusal, else by what `enter` ensures of the register that was gone along.
 use mathlib.Core.Path.{sym, ◌∙◌}
-use borrow.Author.Rules.{rules}
 use Rattle.register.proofs.FileLoop.{quote_says, scan_known, case_refused}
 use Rattle.register.proofs.filing.file.Goals as goal
 

@@ -1,5 +1,4 @@
 -- `file_all` keeps the list claim: it is what `file_lines` ensures, from used length 0.
-use borrow.Author.Rules.{rules}
 use Rattle.register.proofs.FileLoop.{filed_all}
 use Rattle.register.proofs.filing.file_all.Goals as goal
 

@@ -1,6 +1,5 @@
 -- `file_known` is the definition `file_step`: by the case's refusal, else by what `enter` ensures.
 use mathlib.Core.Path.{sym, ◌∙◌}
-use borrow.Author.Rules.{rules}
 use Rattle.register.proofs.FileLoop.{quote_says, case_refused}
 use Rattle.register.proofs.filing.file_known.Goals as goal
 

@@ -1,16 +1,12 @@
 -- `file_lines` keeps that the lines passed have been filed (`Passed`), so that at the text's end all are.
-use Prim.Native.Nat.{◌≤◌, ◌-◌, ◌+◌}
-use mathlib.Core.Path.{◌≡◌, refl, ◌∙◌, ap}
-use mathlib.Core.Logic.{⊎_elim}
+use mathlib.Core.Path.{refl, ◌∙◌, ap}
 use native.Mathlib.Omega.{arith}
-use lib.ListN.{length}
 use borrow.Author.Rules.{rules}
 use Rattle.register.specs.declared.answers.Filed.{Filed}
 use Rattle.register.specs.declared.checking.Scanned.{Scanned}
-use Rattle.register.specs.Layout.{lent}
 use Rattle.register.specs.Check.{following}
 use Rattle.register.proofs.TextLaws.{refusals_next, refusals_past}
-use Rattle.register.proofs.FileLoop.{scan_known, granted_low, granted_next, refused_next, Passed, passed_none, passed_size, passed_all, passed_next}
+use Rattle.register.proofs.FileLoop.{scan_known, granted_low, granted_next, refused_next, passed_none, passed_size, passed_all, passed_next}
 use Rattle.register.proofs.filing.file_lines.Goals as goal
 use Rattle.register.proofs.filing.file_lines.Goals.{else-count-refusals, else-filed-eq0, then-count-refusals, then-filed-eq0}
 
@@ -37,11 +33,17 @@ loop-at-preserved c =
       omega (arith, cut.ensures.after),
       search rules,
       passed_next p cut.result c.loop-at-test.true cut.ensures _ _ _ _ _ filed.ensures.1
-          (elim c.if-filed-eq0.branch [ then-filed-eq0 w ↦ granted_next _ _ _ p.known filed.result filed.ensures.0 _ _ w.if-filed-eq0.true w.filled-is
-          (ap (λ (k : Scanned). k.refusal) w.known-is)
-          (ap (λ (k : Scanned). k.next) w.known-is ∙ w.following_number.ensures ∙ ap following w.number_given-number.ensures) | else-filed-eq0 w ↦ refused_next _ _ _ p.known filed.result filed.ensures.0 _ _ w.if-filed-eq0.false w.filled-is w.known-is ])
-          (elim c.if-count-refusals.branch [ then-count-refusals w ↦ refusals_next _ _ _ p.given _ _ _ _ p.count (ap (λ (a : Filed). a.refusal) filed.ensures.0) w.if-count-refusals.true
-          w.refusals-is | else-count-refusals w ↦ refusals_past _ _ _ p.given _ _ _ p.count w.if-count-refusals.false w.refusals-is ])
+          (elim c.if-filed-eq0.branch [
+            | then-filed-eq0 w ↦ granted_next _ _ _ p.known filed.result filed.ensures.0 _ _ w.if-filed-eq0.true w.filled-is
+                (ap (λ (k : Scanned). k.refusal) w.known-is)
+                (ap (λ (k : Scanned). k.next) w.known-is ∙ w.following_number.ensures ∙ ap following w.number_given-number.ensures)
+            | else-filed-eq0 w ↦ refused_next _ _ _ p.known filed.result filed.ensures.0 _ _ w.if-filed-eq0.false w.filled-is w.known-is
+          ])
+          (elim c.if-count-refusals.branch [
+            | then-count-refusals w ↦ refusals_next _ _ _ p.given _ _ _ _ p.count (ap (λ (a : Filed). a.refusal) filed.ensures.0) w.if-count-refusals.true
+                w.refusals-is
+            | else-count-refusals w ↦ refusals_past _ _ _ p.given _ _ _ p.count w.if-count-refusals.false w.refusals-is
+          ])
           refl,
     )
 

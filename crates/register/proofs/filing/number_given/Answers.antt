@@ -1,5 +1,4 @@
 -- `number_given` is the definition's choice, branch by branch.
-use borrow.Author.Rules.{rules}
 use borrow.Author.Tests.{eq-eqb, ne_eqb}
 use Rattle.register.proofs.filing.number_given.Goals as goal
 

@@ -1,5 +1,4 @@
 -- `number_set` is the definition's choice, branch by branch; the year is the first half of its date's number.
-use borrow.Author.Rules.{rules}
 use borrow.Author.Tests.{eq-eqb, ne_eqb}
 use Rattle.split.specs.Frame.{date_at}
 use Rattle.split.specs.Case.{head_at, head_of}

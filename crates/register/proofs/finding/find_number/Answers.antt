@@ -1,6 +1,5 @@
 -- `find_number` gives the bytes where the line is located, which are the line found.
 use mathlib.Core.Path.{◌∙◌}
-use borrow.Author.Rules.{rules}
 use Rattle.register.specs.Layout.{line_layout}
 use Rattle.register.proofs.FindLaws.{located_within}
 use Rattle.register.proofs.finding.find_number.Goals as goal

@@ -1,9 +1,8 @@
 -- `has_figure` compares the numbers that the digits write: what all of them tell, the first `i` tell.
-use Prim.Native.Nat.{◌-◌, ◌≤◌}
-use mathlib.Core.Path.{◌≡◌, refl, sym}
-use native.Mathlib.Omega.{arith}
+use Prim.Native.Nat.{◌≤◌}
+use mathlib.Core.Path.{◌≡◌}
 use Rattle.register.specs.Line.{figure_width}
-use Rattle.register.proofs.FindLoop.{same_figure, figure_same, figure_other, figure_all}
+use Rattle.register.proofs.FindLoop.{same_figure}
 use Rattle.register.proofs.finding.has_figure.Given as goal
 
 abbrev pub invariant-loop-i : goal.invariant-loop-i

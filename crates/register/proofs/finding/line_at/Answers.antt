@@ -1,7 +1,6 @@
 -- `line_at` is the definition `placed`: by whether the place is one of a used line.
 use Prim.Native.Nat.{◌/◌, ◌≤◌, ◌<◌}
 use mathlib.Core.Path.{◌∙◌}
-use borrow.Author.Rules.{rules}
 use borrow.Author.Tests.{lt-ltb, le-ltb}
 use Rattle.register.specs.Line.{text_length}
 use Rattle.register.specs.Layout.{line_length}

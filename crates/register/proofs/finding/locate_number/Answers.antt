@@ -1,6 +1,5 @@
 -- `locate_number` is the definition `locate`: by what the check gave, and then by the number's place.
 use mathlib.Core.Path.{sym, ◌∙◌}
-use native.Mathlib.Omega.{arith}
 use Rattle.register.specs.Line.{text_length}
 use Rattle.register.specs.Layout.{line_layout}
 use Rattle.register.proofs.FindLoop.{unchecked, lines_sound, answered}

@@ -1,7 +1,6 @@
 -- `place_of_number` gives the number's place: the first line's number begins the register, and sound numbers rise from it by one.
 use mathlib.Core.Path.{sym, ◌∙◌}
 use native.Mathlib.Omega.{arith}
-use borrow.Author.Rules.{rules}
 use Rattle.register.specs.Layout.{line_layout}
 use Rattle.register.proofs.LayoutLaws.{cut_count}
 use Rattle.register.proofs.CheckLaws.{number_inside}

@@ -1,15 +1,13 @@
 -- `search_member` gives the place of the member's last line and how many lines it compared: what n lines answer, the first `i` of
 -- them answer, and `newer` counts the others.
-use Prim.Native.Nat.{◌+◌, ◌-◌}
-use mathlib.Core.Path.{◌≡◌, refl, ◌∙◌}
+use Prim.Native.Nat.{◌-◌}
+use mathlib.Core.Path.{refl, ◌∙◌}
 use native.Mathlib.Omega.{arith}
-use Rattle.split.specs.Frame.{hex_text}
-use Rattle.register.specs.Line.{figure_width, text_length}
+use Rattle.register.specs.Line.{text_length}
 use Rattle.register.specs.Layout.{line_layout}
-use Rattle.register.specs.Find.{has_member}
 use Rattle.register.proofs.LayoutLaws.{cut_count}
 use Rattle.register.proofs.CheckLaws.{number_inside}
-use Rattle.register.proofs.FindLoop.{Same, same_hit, same_miss, same_none, counted_hit, counted_none, member_digits, member_told, line_digits}
+use Rattle.register.proofs.FindLoop.{same_hit, same_miss, same_none, counted_hit, counted_none, member_digits, member_told, line_digits}
 use Rattle.register.proofs.finding.search_member.Goals as goal
 
 pub loop-i-init : goal.loop-i-init

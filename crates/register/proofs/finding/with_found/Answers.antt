@@ -1,6 +1,5 @@
 -- `with_found` is the definition `with_found`.
 use mathlib.Core.Path.{refl}
-use native.Mathlib.Omega.{arith}
 use Rattle.register.specs.Find.{with_found}
 use Rattle.register.proofs.finding.with_found.Goals as goal
 

@@ -1,10 +1,8 @@
 -- `spell` makes each digit's character: what is made, with what the values left make, is what all make.
-use Prim.Native.Nat.{◌-◌}
-use mathlib.Core.List.{◌++◌}
-use mathlib.Core.Path.{◌≡◌, refl}
-use lib.ListN.{length, take, drop, length-set}
+use mathlib.Core.Path.{refl}
+use lib.ListN.{length-set}
 use borrow.Author.Rules.{rules}
-use Rattle.register.proofs.LineLoop.{spelled, spell_next, spell_end}
+use Rattle.register.proofs.LineLoop.{spell_next, spell_end}
 use Rattle.register.proofs.layout.spell.Goals as goal
 
 pub loop-i-init : goal.loop-i-init

@@ -1,10 +1,9 @@
 -- `spell` makes each digit's character: what is made, with what the values left make, is what all make.
 use Prim.Native.Nat.{◌-◌}
 use mathlib.Core.List.{◌++◌}
-use mathlib.Core.Path.{◌≡◌, refl}
-use lib.ListN.{length, take, drop, length-set}
-use borrow.Author.Rules.{rules}
-use Rattle.register.proofs.LineLoop.{spelled, spell_next, spell_end}
+use mathlib.Core.Path.{◌≡◌}
+use lib.ListN.{length, take, drop}
+use Rattle.register.proofs.LineLoop.{spelled}
 use Rattle.register.proofs.layout.spell.Given as goal
 
 abbrev pub invariant-loop-i : goal.invariant-loop-i

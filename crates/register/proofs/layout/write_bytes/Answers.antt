@@ -1,11 +1,7 @@
 -- `write_bytes` writes the bytes of a figure, the last first: those left to write give what all give from the start.
-use Prim.Native.Nat.{◌≤◌}
-use mathlib.Core.Path.{◌≡◌, refl}
+use mathlib.Core.Path.{refl}
 use native.Mathlib.Omega.{arith}
-use lib.ListN.{length, length-set}
-use lib.Seq.{sets}
-use borrow.Author.Rules.{rules}
-use Rattle.register.specs.Scan.{digits_in, figure_bytes}
+use lib.ListN.{length-set}
 use Rattle.register.proofs.LineLoop.{digit_next, digits_end}
 use Rattle.register.proofs.layout.write_bytes.Goals as goal
 

@@ -3,7 +3,6 @@ use mathlib.Core.Path.{◌≡◌, refl, ◌∙◌, ap}
 use native.Mathlib.Omega.{arith}
 use lib.ListN.{length, length-map}
 use lib.Seq.{length-sets}
-use borrow.Author.Rules.{rules}
 use Rattle.register.proofs.LineLoop.{figure_written}
 use Rattle.register.proofs.layout.write_figure.Goals as goal
 

@@ -1,6 +1,5 @@
 -- `write_header` writes the bytes of the header's figures one after the other.
 use mathlib.Core.Path.{refl}
-use borrow.Author.Rules.{rules}
 use Rattle.register.specs.Line.{figures_of}
 use Rattle.register.proofs.LineLoop.{three_written}
 use Rattle.register.proofs.layout.write_header.Goals as goal

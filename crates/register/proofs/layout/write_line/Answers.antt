@@ -1,16 +1,14 @@
 -- `write_line` writes the line of the figures: the bytes of the shares left to write give what all give behind the header; then
 -- the values of their digits are written, characters are made of them all, and the newline comes last.
-use Prim.Native.Nat.{◌+◌, ◌*◌, ◌≤◌, ◌-◌}
 use mathlib.Core.List.{◌++◌}
 use mathlib.Core.Path.{◌≡◌, refl, sym, ◌∙◌, ap}
 use native.Mathlib.Omega.{arith}
 use lib.ListN.{length, drop, length-map, length-set}
-use lib.Seq.{sets, length-sets}
+use lib.Seq.{length-sets}
 use borrow.Author.Rules.{rules}
 use borrow.Rule.Slice.PartMut.{same_len_mid}
-use Rattle.register.specs.Line.{share_count, text_length, figures_of, shares_figures}
+use Rattle.register.specs.Line.{text_length, figures_of}
 use Rattle.register.specs.Layout.{line_length}
-use Rattle.register.specs.Scan.{header_bytes, share_bytes, figures_bytes}
 use Rattle.register.proofs.LineLoop.{share_next, shares_end, line_written}
 use Rattle.register.proofs.layout.write_line.Goals as goal
 use Rattle.register.proofs.layout.write_line.Goals.{After-spell, After-write_values}

@@ -1,7 +1,6 @@
 -- `write_share` writes the bytes of a share's figures one after the other.
 use mathlib.Core.Path.{refl}
 use native.Mathlib.Omega.{arith}
-use borrow.Author.Rules.{rules}
 use Rattle.register.proofs.LineLoop.{three_written}
 use Rattle.register.proofs.layout.write_share.Goals as goal
 

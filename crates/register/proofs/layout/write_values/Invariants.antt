@@ -1,12 +1,9 @@
 -- `write_values` writes the values of each byte's two digits: those of the bytes left give what all give from the start.
 use Prim.Native.Nat.{◌*◌, ◌-◌}
-use mathlib.Core.Path.{◌≡◌, refl}
-use native.Mathlib.Omega.{arith}
-use lib.ListN.{length, drop, length-set}
+use mathlib.Core.Path.{◌≡◌}
+use lib.ListN.{length, drop}
 use lib.Seq.{sets}
-use borrow.Author.Rules.{rules}
 use Rattle.register.specs.Scan.{byte_digits, byte_values}
-use Rattle.register.proofs.LineLoop.{value_next, values_end}
 use Rattle.register.proofs.layout.write_values.Given as goal
 
 abbrev pub invariant-loop-i : goal.invariant-loop-i

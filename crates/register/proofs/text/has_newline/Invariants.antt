@@ -1,12 +1,10 @@
 -- `has_newline` is the definition `has_newline`: what the whole part answers, the flag and the rest from `i` on answer.
 use Prim.Native.Nat.{ℕ, ◌-◌, ◌≤◌}
-use mathlib.Core.Bool.{Bool, ◌||◌}
-use mathlib.Core.Path.{◌≡◌, refl}
+use mathlib.Core.Bool.{◌||◌}
+use mathlib.Core.Path.{◌≡◌}
 use lib.Dec.{eqb}
 use lib.ListN.{length, drop}
-use borrow.Author.Rules.{rules}
 use Rattle.calendar.specs.Tests.{any}
-use Rattle.calendar.proofs.TestsLaws.{flag_more, flag_all}
 use Rattle.register.specs.Scan.{has_newline}
 use Rattle.register.proofs.text.has_newline.Given as goal
 

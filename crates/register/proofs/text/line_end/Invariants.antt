@@ -1,9 +1,7 @@
 -- `line_end` passes spans without a newline: no character passed is one, and the first from there on is the line's end.
 use Prim.Native.Nat.{◌≤◌, ◌-◌}
-use mathlib.Core.Path.{sym, ◌∙◌}
-use native.Mathlib.Omega.{arith}
 use lib.ListN.{length}
-use Rattle.register.proofs.TextLoop.{Unbroken, unbroken_span, end_further}
+use Rattle.register.proofs.TextLoop.{Unbroken}
 use Rattle.register.proofs.text.line_end.Given as goal
 
 abbrev pub invariant-loop-end : goal.invariant-loop-end

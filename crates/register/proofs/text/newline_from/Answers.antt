@@ -1,9 +1,7 @@
 -- `newline_from` scans to the newline: no character passed is one.
-use Prim.Native.Nat.{◌≤◌, ◌-◌}
 use native.Mathlib.Omega.{arith}
-use lib.ListN.{length}
 use borrow.Author.Rules.{rules}
-use Rattle.register.proofs.TextLoop.{Unbroken, unbroken_more}
+use Rattle.register.proofs.TextLoop.{unbroken_more}
 use Rattle.register.proofs.text.newline_from.Goals as goal
 
 pub loop-end-init : goal.loop-end-init

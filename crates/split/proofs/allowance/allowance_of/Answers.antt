@@ -1,6 +1,5 @@
 -- `allowance_of` is the definition `allowance_of`, on either side of the date, by what its calls promise.
-use mathlib.Core.Bool.{true, false}
-use mathlib.Core.Path.{sym, ◌∙◌}
+use mathlib.Core.Bool.{true}
 use Rattle.split.specs.Allowance.{allowance_of}
 use Rattle.split.proofs.allowance.allowance_of.Goals as goal
 

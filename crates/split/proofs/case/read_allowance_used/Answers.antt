@@ -1,5 +1,4 @@
 -- `read_allowance_used` is the definition `allowance_used_at`: the number where the line goes on, and nothing where it ends.
-use mathlib.Core.Path.{◌∙◌, sym}
 use native.Mathlib.Omega.{arith}
 use borrow.Author.Tests.{lt-ltb, le-ltb}
 use Rattle.split.specs.Case.{allowance_used_at}

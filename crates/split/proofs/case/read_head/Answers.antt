@@ -1,5 +1,4 @@
 -- `read_head` is the definition `head_at`, field by field.
-use native.Mathlib.Omega.{arith}
 use Rattle.split.specs.Case.{head_at}
 use Rattle.split.proofs.BytesLaws.{made_of, ◌then◌}
 use Rattle.split.proofs.case.read_head.Goals as goal

@@ -1,5 +1,4 @@
 -- `read_pension` is the definition `pension_at`, field by field.
-use native.Mathlib.Omega.{arith}
 use Rattle.split.specs.Case.{pension_at}
 use Rattle.split.proofs.BytesLaws.{made_of, ◌then◌}
 use Rattle.split.proofs.case.read_pension.Goals as goal

@@ -1,5 +1,4 @@
 -- `read_service` is the definition `service_at`, date by date.
-use native.Mathlib.Omega.{arith}
 use Rattle.split.specs.Case.{service_at}
 use Rattle.split.proofs.BytesLaws.{made_of, ◌then◌}
 use Rattle.split.proofs.case.read_service.Goals as goal

@@ -1,5 +1,4 @@
 -- `read_terms` is the definition `terms_at`, field by field.
-use native.Mathlib.Omega.{arith}
 use Rattle.split.specs.Case.{terms_at}
 use Rattle.split.proofs.BytesLaws.{made_of, ◌then◌}
 use Rattle.split.proofs.case.read_terms.Goals as goal

@@ -1,11 +1,10 @@
 -- `decode` goes block by block: the first `at` characters of the line are decoded, after the loop at least those before the
 -- last block, and after it all but the last character.
-use Prim.Native.Nat.{ℕ, ◌+◌, ◌-◌, ◌<◌}
+use Prim.Native.Nat.{ℕ}
 use mathlib.Core.Path.{ap}
 use native.Mathlib.Omega.{arith}
 use lib.Dec.{eqb}
 use Rattle.split.specs.Frame.{is_no_digit}
-use Rattle.split.specs.Bytes.{block_length, Decoded}
 use Rattle.split.proofs.BytesLaws.{decoded_none, decoded_again, decoded_all}
 use Rattle.split.proofs.frame.decode.Goals as goal
 

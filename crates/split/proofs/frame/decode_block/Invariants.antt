@@ -1,12 +1,6 @@
 -- `decode_block` decodes the characters one by one: the first `at + i` of the line are decoded.
-use Prim.Native.Nat.{ℕ, ◌+◌, ◌-◌, ◌≤◌}
-use mathlib.Core.Path.{◌≡◌, ap}
-use native.Mathlib.Nat.{add_assoc, add-zero}
-use native.Mathlib.Omega.{arith}
-use lib.Dec.{eqb}
-use Rattle.split.specs.Frame.{is_no_digit}
+use Prim.Native.Nat.{◌+◌, ◌-◌, ◌≤◌}
 use Rattle.split.specs.Bytes.{block_length, Decoded}
-use Rattle.split.proofs.BytesLaws.{decoded_more}
 use Rattle.split.proofs.frame.decode_block.Given as goal
 
 abbrev pub invariant-loop-i : goal.invariant-loop-i

@@ -1,7 +1,7 @@
 -- `digits_at` is the definition `number_at`, a digit at a time; eight digits fit its type.
-use Prim.Native.Nat.{◌<◌, ◌-◌}
+use Prim.Native.Nat.{◌<◌}
 use native.Mathlib.Omega.{arith}
-use Rattle.split.proofs.FrameLaws.{DigitsRead, read_none, read_room, read_more, read_all}
+use Rattle.split.proofs.FrameLaws.{read_none, read_room, read_more, read_all}
 use Rattle.split.proofs.frame.digits_at.Goals as goal
 use Rattle.split.proofs.frame.digits_at.Goals.{In-loop-i}
 

@@ -1,7 +1,6 @@
 -- `digits_at` is the definition `number_at`, a digit at a time; eight digits fit its type.
-use Prim.Native.Nat.{◌<◌, ◌-◌}
-use native.Mathlib.Omega.{arith}
-use Rattle.split.proofs.FrameLaws.{DigitsRead, read_none, read_room, read_more, read_all}
+use Prim.Native.Nat.{◌-◌}
+use Rattle.split.proofs.FrameLaws.{DigitsRead}
 use Rattle.split.proofs.frame.digits_at.Given as goal
 
 abbrev pub invariant-loop-i : goal.invariant-loop-i

@@ -1,12 +1,9 @@
 -- `has_bad_character` is the definition `bad_character`: what the whole line answers, the flag and the rest from `i` on answer.
-use Prim.Native.Nat.{ℕ, ◌-◌, ◌≤◌}
-use mathlib.Core.Path.{◌≡◌, refl, ap}
-use mathlib.Core.Bool.{◌||◌}
+use Prim.Native.Nat.{ℕ}
+use mathlib.Core.Path.{refl, ap}
 use native.Mathlib.Omega.{arith}
 use lib.Dec.{eqb}
-use lib.ListN.{length, drop}
 use Rattle.split.specs.Frame.{bad_character, is_no_digit}
-use Rattle.calendar.specs.Tests.{any}
 use Rattle.calendar.proofs.TestsLaws.{flag_more, flag_all}
 use Rattle.split.proofs.frame.has_bad_character.Goals as goal
 

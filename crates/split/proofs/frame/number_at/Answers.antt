@@ -1,6 +1,5 @@
 -- `number_at` is eight digits; past the end they are zeros.
 use mathlib.Core.Path.{sym}
-use native.Mathlib.Omega.{arith}
 use Rattle.split.proofs.FrameLaws.{number_past}
 use Rattle.split.proofs.frame.number_at.Goals as goal
 

@@ -1,13 +1,13 @@
 -- `cheapest_place` is the definition `cheapest`, from the last row back: `best` is the place in the rows from `i` on.
-use Prim.Native.Nat.{ℕ, ◌+◌, ◌-◌, ◌≤◌, ◌<◌}
+use Prim.Native.Nat.{ℕ, ◌-◌, ◌≤◌, ◌<◌}
 use mathlib.Core.Bool.{false, false≢true}
 use mathlib.Core.List.{List}
 use mathlib.Core.Path.{◌≡◌, sym, ◌∙◌, ap}
 use native.Mathlib.Nat.{le_refl, le_trans, le_of_eq, le_of_lt, lt_of_lt_of_le, ne_of_lt, mul-le-mul_right}
 use native.Mathlib.Numerals.{lt_of_le_of_ne}
-use lib.ListN.{length, get_or, take, drop}
+use lib.ListN.{length, get_or, take}
 use mir.Facts.{Fits-below}
-use Rattle.split.specs.Grant.{Row, row_at, goes_first, cheapest}
+use Rattle.split.specs.Grant.{Row, row_at, goes_first}
 use Rattle.split.specs.Arrays.{rows_in}
 use Rattle.split.proofs.ListLoop.{one_before}
 use Rattle.split.proofs.ArraysLaws.{Sized, rows_counted, row_at_place}

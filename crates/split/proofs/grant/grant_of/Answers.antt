@@ -1,5 +1,5 @@
 -- `grant_of` sums the pensions one by one, and then takes the turns under the limit of their sum.
-use Prim.Native.Nat.{ℕ, ◌-◌, ◌*◌, ◌≤◌, ◌<◌, zero-le}
+use Prim.Native.Nat.{ℕ, ◌*◌, ◌<◌, zero-le}
 use mathlib.Core.Bool.{true}
 use mathlib.Core.Path.{◌≡◌, refl, ◌∙◌, ap}
 use native.Mathlib.Nat.{le_trans, lt_of_lt_of_le}

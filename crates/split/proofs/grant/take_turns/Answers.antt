@@ -10,10 +10,10 @@ use lib.ListN.{length, get_or, take, replicate, length-set, get_or-replicate}
 use lib.Seq.{get_or-set_other}
 use mir.Facts.{Fits-le, Fits-below}
 use Rattle.split.specs.Allowance.{allowed}
-use Rattle.split.specs.Grant.{most, turns, lumps_of}
+use Rattle.split.specs.Grant.{turns, lumps_of}
 use Rattle.split.specs.Arrays.{rows_in}
 use Rattle.split.proofs.ListLoop.{one_fewer, fewer}
-use Rattle.split.proofs.ArraysLaws.{Sized, lumps_of_rows}
+use Rattle.split.proofs.ArraysLaws.{lumps_of_rows}
 use Rattle.split.proofs.GrantLoop.{arrays_turn, lump_affordable, turns_idle}
 use Rattle.split.proofs.grant.take_turns.Goals as goal
 use Rattle.split.proofs.grant.take_turns.Goals.{After-allowed_lump-lump, After-struct_known-1, At-loop-done, Else-n-place}

@@ -1,5 +1,4 @@
 -- `basis_of` puts together what its calls give, which is the definition `basis_of`.
-use native.Mathlib.Omega.{arith}
 use Rattle.split.specs.Refusal.{age_of}
 use Rattle.split.proofs.WorkingLaws.{basis_made}
 use Rattle.split.proofs.limits.basis_of.Goals as goal

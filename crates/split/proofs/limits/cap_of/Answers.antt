@@ -1,7 +1,6 @@
 -- `cap_of` is the definition `cap_of`: the lower of what was chosen and the quarter's lump.
 use Prim.Native.Nat.{ℕ, ◌*◌, ◌/◌}
 use mathlib.Core.Bool.{Bool, cond}
-use mathlib.Core.Logic.{⊎_elim}
 use mathlib.Core.Path.{◌≡◌, sym, ◌∙◌, ap}
 use native.Mathlib.Omega.{arith}
 use Rattle.split.proofs.BenefitsLaws.{cap_chosen}

@@ -1,6 +1,5 @@
 -- `is_limited` is the definition `limited_lump`, by what its call promises.
 use mathlib.Core.Bool.{◌&&◌, ◌||◌}
-use native.Mathlib.Omega.{arith}
 use lib.Dec.{eqb}
 use Rattle.calendar.specs.Tests.{within}
 use Rattle.split.specs.Benefits.{limited_lump}

@@ -2,7 +2,6 @@
 use Prim.Native.Nat.{◌*◌, ◌≤◌}
 use native.Mathlib.Omega.{arith}
 use native.Mathlib.Nat.{mul-le-mul_left}
-use borrow.Author.Rules.{rules}
 use Rattle.split.proofs.limits.paid_part.Goals as goal
 use Rattle.split.proofs.limits.paid_part.Goals.{Start}
 

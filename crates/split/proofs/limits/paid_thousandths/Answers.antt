@@ -1,5 +1,4 @@
 -- `paid_thousandths` is the definition `paid_thousandths`, branch by branch.
-use native.Mathlib.Omega.{arith}
 use Rattle.split.proofs.WorkingLaws.{paid_early, paid_whole}
 use Rattle.split.proofs.limits.paid_thousandths.Goals as goal
 

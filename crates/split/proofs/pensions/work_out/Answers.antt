@@ -1,5 +1,5 @@
 -- `work_out` goes through the pensions one by one: the first `i` were read, judged and summed, and held where none is refused.
-use Prim.Native.Nat.{ℕ, ◌+◌, ◌-◌, ◌*◌, ◌≤◌, ◌<◌, zero-le}
+use Prim.Native.Nat.{ℕ, ◌+◌, ◌*◌, ◌≤◌, ◌<◌, zero-le}
 use mathlib.Core.Path.{◌≡◌, refl, ◌∙◌, ap}
 use native.Mathlib.Nat.{le_antisymm, lt_of_lt_of_le}
 use native.Mathlib.Numerals.{add-one-le}

@@ -1,13 +1,13 @@
 -- `case_quote` is the definition `case_quote` of the pensions that were worked out and the amount that was read behind them: what
 -- each callee asks holds of an accepted case, and their promises compose.
-use Prim.Native.Nat.{ℕ, ◌≤◌}
+use Prim.Native.Nat.{ℕ}
 use mathlib.Core.Path.{◌≡◌, refl, sym, ◌∙◌, ap}
 use native.Mathlib.Omega.{arith}
 use lib.ListN.{take}
 use Rattle.split.specs.declared.allowance.Allowance.{Allowance}
 use Rattle.split.specs.Benefits.{benefits_of}
 use Rattle.split.specs.Bytes.{FieldOf}
-use Rattle.split.specs.Case.{allowance_used_at, case_length, longest_line}
+use Rattle.split.specs.Case.{allowance_used_at, case_length}
 use Rattle.split.specs.Allowance.{allowance_of}
 use Rattle.split.specs.Grant.{grant}
 use Rattle.split.proofs.Accepted.{Accepted, case_accepted}

@@ -1,13 +1,11 @@
 -- `shares_at` stores the shares one by one: the first `i` are those of the first `i` places.
-use Prim.Native.Nat.{◌-◌, ◌≤◌, zero-le}
-use mathlib.Core.List.{◌++◌}
-use mathlib.Core.Path.{◌≡◌, refl, ap}
+use Prim.Native.Nat.{zero-le}
+use mathlib.Core.Path.{refl, ap}
 use native.Mathlib.Numerals.{add-one-le}
-use native.Mathlib.Omega.{arith}
 use lib.ListN.{replicate}
 use Rattle.split.specs.declared.answers.Share.{Share}
 use Rattle.split.specs.Quote.{no_share}
-use Rattle.split.specs.Working.{placed, share_from_columns}
+use Rattle.split.specs.Working.{placed}
 use Rattle.split.proofs.QuotingLoop.{placed_stored, placed_whole}
 use Rattle.split.proofs.quoting.shares_at.Goals as goal
 

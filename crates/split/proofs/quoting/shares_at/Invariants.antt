@@ -1,14 +1,10 @@
 -- `shares_at` stores the shares one by one: the first `i` are those of the first `i` places.
-use Prim.Native.Nat.{◌-◌, ◌≤◌, zero-le}
+use Prim.Native.Nat.{◌-◌, ◌≤◌}
 use mathlib.Core.List.{◌++◌}
-use mathlib.Core.Path.{◌≡◌, refl, ap}
-use native.Mathlib.Numerals.{add-one-le}
-use native.Mathlib.Omega.{arith}
+use mathlib.Core.Path.{◌≡◌}
 use lib.ListN.{replicate}
-use Rattle.split.specs.declared.answers.Share.{Share}
 use Rattle.split.specs.Quote.{no_share}
 use Rattle.split.specs.Working.{placed, share_from_columns}
-use Rattle.split.proofs.QuotingLoop.{placed_stored, placed_whole}
 use Rattle.split.proofs.quoting.shares_at.Given as goal
 
 abbrev pub invariant-loop-i : goal.invariant-loop-i

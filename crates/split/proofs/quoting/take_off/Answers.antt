@@ -1,10 +1,8 @@
 -- `take_off` fills both columns place by place.
-use Prim.Native.Nat.{◌-◌, ◌≤◌, ◌<◌, zero-le}
+use Prim.Native.Nat.{◌<◌, zero-le}
 use mathlib.Core.Path.{◌≡◌}
 use native.Mathlib.Nat.{le_antisymm, lt_of_lt_of_le}
 use native.Mathlib.Numerals.{add-one-le}
-use native.Mathlib.Omega.{arith}
-use Rattle.split.specs.Working.{remaining_in, second_in, FilledBy}
 use Rattle.split.proofs.QuotingLoop.{filled_none, filled_more}
 use Rattle.split.proofs.quoting.take_off.Goals as goal
 use Rattle.split.proofs.quoting.take_off.Goals.{In-loop-i}

@@ -1,6 +1,6 @@
 -- `total_of` sums the lumps one by one: the sum is that of the first `i`, which is at most the whole.
-use Prim.Native.Nat.{ℕ, ◌-◌, ◌≤◌, ◌<◌, zero-le}
-use mathlib.Core.Path.{◌≡◌, refl}
+use Prim.Native.Nat.{ℕ, ◌<◌, zero-le}
+use mathlib.Core.Path.{refl}
 use native.Mathlib.Nat.{le_trans, le_of_lt, lt_of_lt_of_le, mul-le-mul_right}
 use native.Mathlib.Numerals.{add-one-le}
 use lib.ListN.{length, take}

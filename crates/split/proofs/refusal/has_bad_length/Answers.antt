@@ -2,7 +2,6 @@
 use Prim.Native.Nat.{◌+◌}
 use mathlib.Core.Bool.{Bool, not, ◌&&◌, ◌||◌}
 use mathlib.Core.Path.{ap}
-use native.Mathlib.Omega.{arith}
 use lib.Dec.{eqb}
 use Rattle.split.specs.Case.{case_length, allowance_used_length}
 use Rattle.split.specs.Refusal.{bad_length}

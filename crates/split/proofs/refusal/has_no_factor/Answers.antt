@@ -1,6 +1,5 @@
 -- `has_no_factor` is the definition `no_factor`, by what its calls promise.
 use mathlib.Core.Bool.{not, ◌&&◌, ◌||◌}
-use native.Mathlib.Omega.{arith}
 use lib.Dec.{eqb}
 use Rattle.split.specs.Refusal.{no_factor}
 use Rattle.split.proofs.refusal.has_no_factor.Goals as goal

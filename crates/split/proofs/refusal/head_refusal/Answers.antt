@@ -1,7 +1,6 @@
 -- `head_refusal`: the first test that passes is the lowest condition.
 use mathlib.Core.Bool.{or-false}
 use mathlib.Core.Path.{◌≡◌, sym, ◌∙◌, ap}
-use native.Mathlib.Omega.{arith}
 use Rattle.split.specs.Refusal.{age_of, bad_age, conditions_with}
 use Rattle.split.proofs.refusal.head_refusal.Goals as goal
 use Rattle.split.proofs.refusal.head_refusal.Goals.{After-is_bad_age}

@@ -1,6 +1,5 @@
 -- `is_disordered` is the definition `disordered`, by what its calls promise.
 use mathlib.Core.Bool.{not, ◌||◌}
-use native.Mathlib.Omega.{arith}
 use Rattle.split.specs.Refusal.{disordered}
 use Rattle.split.proofs.refusal.is_disordered.Goals as goal
 

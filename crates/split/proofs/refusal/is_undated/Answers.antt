@@ -1,6 +1,5 @@
 -- `is_undated` is the definition `undated`, by what its calls promise.
 use mathlib.Core.Bool.{not, ◌||◌}
-use native.Mathlib.Omega.{arith}
 use Rattle.split.specs.Refusal.{undated}
 use Rattle.split.proofs.refusal.is_undated.Goals as goal
 

@@ -1,6 +1,5 @@
 -- `is_undated_head` is the definition `undated_head`, by what its calls promise.
 use mathlib.Core.Bool.{not, ◌||◌}
-use native.Mathlib.Omega.{arith}
 use Rattle.split.specs.Refusal.{undated_head}
 use Rattle.split.proofs.refusal.is_undated_head.Goals as goal
 

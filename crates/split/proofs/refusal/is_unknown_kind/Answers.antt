@@ -1,6 +1,5 @@
 -- `is_unknown_kind` is the definition `unknown_kind`, by what its calls promise.
 use mathlib.Core.Bool.{not}
-use native.Mathlib.Omega.{arith}
 use Rattle.split.specs.Refusal.{unknown_kind}
 use Rattle.split.proofs.refusal.is_unknown_kind.Goals as goal
 

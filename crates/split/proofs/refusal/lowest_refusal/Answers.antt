@@ -1,6 +1,5 @@
 -- `lowest_refusal`: the first test that passes is the lowest condition; those after the kind are the callee's.
 use mathlib.Core.Path.{sym, ◌∙◌}
-use native.Mathlib.Omega.{arith}
 use Rattle.split.proofs.ConditionsLaws.{pension_lowest}
 use Rattle.split.proofs.refusal.lowest_refusal.Goals as goal
 

@@ -1,5 +1,4 @@
 -- `terms_refusal`: the first test that passes is the lowest condition.
-use native.Mathlib.Omega.{arith}
 use Rattle.split.proofs.refusal.terms_refusal.Goals as goal
 
 pub returns-then-is_unlisted : goal.returns-then-is_unlisted

@@ -1,5 +1,4 @@
 -- `date` is the definition `date_at`, part by part.
-use native.Mathlib.Omega.{arith}
 use Rattle.calendar.specs.Calendar.{date}
 use Rattle.split.specs.Frame.{date_at}
 use Rattle.split.proofs.BytesLaws.{made_of, ◌then◌}

@@ -1,5 +1,4 @@
 -- `number` is a number of 8 digits: two of 4, joined.
-use native.Mathlib.Omega.{arith}
 use Rattle.split.proofs.BytesLaws.{number_joined}
 use Rattle.split.proofs.frame.Cursor.number.Goals as goal
 

@@ -1,5 +1,4 @@
 -- `short` is a number of 4 digits: two of 2, joined.
-use native.Mathlib.Omega.{arith}
 use Rattle.split.proofs.BytesLaws.{number_joined}
 use Rattle.split.proofs.frame.Cursor.short.Goals as goal
 
