@@ -10,7 +10,7 @@ fn main() {
     let archive = folder.join("libpension.a");
     println!("cargo::rerun-if-changed={}", archive.display());
     if !archive.is_file() {
-        println!("cargo::error=run `rt staticlib pension` first");
+        println!("cargo::error=run `make -C host archive` first");
         return;
     }
     println!("cargo::rustc-link-search=native={}", folder.display());

@@ -1,7 +1,7 @@
 /*
  * pension.h - the retirement quotation engine for police pensions, for C.
  *
- * Link with libpension.a, which `rt staticlib pension` writes to target/staticlib/.
+ * Link with libpension.a, which `make -C host archive` writes to target/staticlib/.
  *
  * Case lines. A case line is uppercase hexadecimal digits: 26 for the case and 44
  * for each of its pensions. It may end with 8 more: the pence already used of the

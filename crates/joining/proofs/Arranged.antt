@@ -18,7 +18,7 @@ use Rattle.register.specs.Scan.{SoundLines}
 use Rattle.joining.specs.Join.{holds, line_of, first_number, lower_first, higher_next, joined_lines, not_joinable}
 use Rattle.joining.specs.Parts.{lines_before}
 use Rattle.joining.proofs.JoinLaws.{spanned, joined_count, joined_at, line_first, line_second, lacking, alike, no_fault, faultless_each, each_faultless, some_faulty}
-use Rattle.joining.proofs.Numbers.{after_rising, first_positive, number_of, line_there, none_below, none_above}
+use Rattle.joining.proofs.Numbers.{after_rising, first_positive, number_by_place, line_there, none_below, none_above}
 use Rattle.joining.proofs.Texts.{bytes_append}
 
 -- the bytes of lines one after the other
@@ -40,7 +40,7 @@ placed [] [] sound sound₂ order = record {
   ends = refl;
 }
 placed [] (h ∷ hs) sound sound₂ order =
-    let next = after_rising (h ∷ hs) 0 (number_in h) (number_of (h ∷ hs) sound₂ (number_in h) (λ i. refl)) (omega arith) in
+    let next = after_rising (h ∷ hs) 0 (number_in h) (number_by_place (h ∷ hs) sound₂ (number_in h) (λ i. refl)) (omega arith) in
     record {
       begins = λ i. absurd (omega arith);
       begins₂ = λ i. omega arith;
@@ -49,8 +49,8 @@ placed [] (h ∷ hs) sound sound₂ order =
 placed (l ∷ ls) [] sound sound₂ order = absurd (omega (arith, first_positive (l ∷ ls) sound (omega arith)))
 placed (l ∷ ls) (h ∷ hs) sound sound₂ order =
     let some = first_positive (l ∷ ls) sound (omega arith) in
-    let next = after_rising (l ∷ ls) 0 (number_in l) (number_of (l ∷ ls) sound (number_in l) (λ i. refl)) (omega arith) in
-    let next₂ = after_rising (h ∷ hs) 0 (number_in h) (number_of (h ∷ hs) sound₂ (number_in h) (λ i. refl)) (omega arith) in
+    let next = after_rising (l ∷ ls) 0 (number_in l) (number_by_place (l ∷ ls) sound (number_in l) (λ i. refl)) (omega arith) in
+    let next₂ = after_rising (h ∷ hs) 0 (number_in h) (number_by_place (h ∷ hs) sound₂ (number_in h) (λ i. refl)) (omega arith) in
     let one = ne_eqb (number_in l) 0 (omega arith) in
     let other = ne_eqb (number_in h) 0 (omega arith) in
     record {

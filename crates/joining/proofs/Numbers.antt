@@ -87,8 +87,8 @@ first_positive (l ∷ ls) sound h =
 module _ (ls : List (List ℕ)) (sound : SoundLines ls) where
   -- where they begin with a number, a number from it on is as far behind the first as it is above it; no other is there
   module _ (first : ℕ) (begins : 0 < length ls → number_in (get_or ls 0 []) ≡ first) where
-    pub number_of : (k : ℕ) → k < length ls → number_in (get_or ls k []) ≡ first + k
-    number_of k h = omega (arith, sound_number line_layout number_inside ls 0 k sound h, begins (omega arith))
+    pub number_by_place : (k : ℕ) → k < length ls → number_in (get_or ls k []) ≡ first + k
+    number_by_place k h = omega (arith, sound_number line_layout number_inside ls 0 k sound h, begins (omega arith))
 
     pub line_there : (number : ℕ) → first ≤ number → number < first + length ls
         → (holds ls number ≡ true) × (line_of ls number ≡ get_or ls (number - first) [])

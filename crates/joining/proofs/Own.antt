@@ -21,7 +21,7 @@ use Rattle.register.proofs.LayoutLaws.{Whole}
 use Rattle.register.proofs.CheckLaws.{Good, number_inside, sound_good}
 use Rattle.joining.specs.Join.{holds, line_of, first_number, lower_first, higher_next}
 use Rattle.joining.specs.Claims.{LineIn, LineInOne}
-use Rattle.joining.proofs.Numbers.{first_line, after_rising, first_positive, number_of, line_there, held_within}
+use Rattle.joining.proofs.Numbers.{first_line, after_rising, first_positive, number_by_place, line_there, held_within}
 use Rattle.joining.proofs.Swapped.{lower_swapped, higher_swapped}
 use Rattle.joining.proofs.Texts.{sound_register}
 
@@ -104,7 +104,7 @@ module _ (r : Register) (sound : (check_of r).refusal ≡ 0) where
       rw t.1
       (record {
         among = record { place = place; inside = i; there = refl };
-        numbered = omega (arith, number_of ls lines_sound (first_number ls) begins place i);
+        numbered = omega (arith, number_by_place ls lines_sound (first_number ls) begins place i);
         good = sound_good line_layout number_inside ls 0 0 place lines_sound i;
         whole = whole_each line_layout ls (sound_register r.bytes r.used sound).part.whole place i;
       })
@@ -114,7 +114,7 @@ module _ (r : Register) (sound : (check_of r).refusal ≡ 0) where
     pub own_number : number_in l ≡ first_number (used_lines r) + among.place
     own_number =
         ap number_in (sym among.there)
-        ∙ number_of (used_lines r) lines_sound (first_number (used_lines r)) (first_line (used_lines r)) among.place among.inside
+        ∙ number_by_place (used_lines r) lines_sound (first_number (used_lines r)) (first_line (used_lines r)) among.place among.inside
 
     pub own_positive : 0 < number_in l
     own_positive =
@@ -136,7 +136,7 @@ module _ (r : Register) (sound : (check_of r).refusal ≡ 0) where
         let i = among.inside in
         let e = own_number in
         let some = first_positive ls lines_sound (omega arith) in
-        let next = after_rising ls 0 (first_number ls) (number_of ls lines_sound (first_number ls) (first_line ls)) (omega arith) in
+        let next = after_rising ls 0 (first_number ls) (number_by_place ls lines_sound (first_number ls) (first_line ls)) (omega arith) in
         (omega (arith, lower_most ls ms some), omega (arith, higher_least ls ms))
 
   -- its first line and its last
@@ -149,7 +149,7 @@ module _ (r : Register) (sound : (check_of r).refusal ≡ 0) where
         let ls = used_lines r in
         let last = length ls - 1 in
         let i : last < length ls = omega arith in
-        let numbers = number_of ls lines_sound (first_number ls) (first_line ls) in
+        let numbers = number_by_place ls lines_sound (first_number ls) (first_line ls) in
         (get_or ls last [], record { place = last; inside = i; there = refl }, omega (arith, numbers last i, after_rising ls 0 (first_number ls) numbers some))
 
 -- the number of a line of either of two

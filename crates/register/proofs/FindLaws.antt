@@ -86,11 +86,11 @@ module _ (f : List ℕ → Bool) where
 -- a number among sound lines: they rise by one from the first's, so its line is as far behind the first as it is above that
 module _ (y : Layout) (wide : figure_width ≤ y.text) (ls : List (List ℕ)) (sound : (check_lines_by y 0 0 ls).refusal ≡ 0)
     (first number : ℕ) (begins : 0 < length ls → number_in (get_or ls 0 []) ≡ first) where
-  number_at : (k : ℕ) → k < length ls → number_in (get_or ls k []) ≡ first + k
-  number_at k h = omega (arith, sound_number y wide ls 0 k sound h, begins (omega arith))
+  number_by_place : (k : ℕ) → k < length ls → number_in (get_or ls k []) ≡ first + k
+  number_by_place k h = omega (arith, sound_number y wide ls 0 k sound h, begins (omega arith))
 
   number_none : ((k : ℕ) → k < length ls → first + k ≡ number → ⊥) → any (has_number number) ls ≡ false
-  number_none other = none_any (has_number number) ls [] (λ k h. ne_eqb _ number (λ e. other k h (sym (number_at k h) ∙ e)))
+  number_none other = none_any (has_number number) ls [] (λ k h. ne_eqb _ number (λ e. other k h (sym (number_by_place k h) ∙ e)))
 
   pub number_before : number < first → (place : ℕ) → length ls ≤ place → LastAt (has_number number) ls place
   number_before low place past = record {
@@ -101,9 +101,9 @@ module _ (y : Layout) (wide : figure_width ≤ y.text) (ls : List (List ℕ)) (s
   pub number_behind : first ≤ number → LastAt (has_number number) ls (number - first)
   number_behind high = record {
     found = λ h.
-        let here = eq-eqb (number_in (get_or ls (number - first) [])) number (omega (arith, number_at (number - first) h)) in (
+        let here = eq-eqb (number_in (get_or ls (number - first) [])) number (omega (arith, number_by_place (number - first) h)) in (
           some_any (has_number number) ls (number - first) [] h here,
-          last_at (has_number number) ls (number - first) h here (λ j i m. ne_eqb _ number (λ e. omega (arith, number_at j m))),
+          last_at (has_number number) ls (number - first) h here (λ j i m. ne_eqb _ number (λ e. omega (arith, number_by_place j m))),
         );
     absent = λ h. number_none (λ k i e. omega arith);
   }
