@@ -1,19 +1,15 @@
 // Fills a register of 65,536 bytes with one case and prints what filing, the check and the finds then answer.
-use libc::STDOUT_FILENO;
+#![tactic(auto)]
+
+use std::io;
+
+const REGISTER_LENGTH: usize = 65536;
 
 // The number of the first filed line.
 const FIRST_NUMBER: u32 = 1;
 
-fn text(words: &[u8]) {
-    io::write_all(STDOUT_FILENO, words);
-}
-
-fn number(n: u64) {
-    io::print_decimal(STDOUT_FILENO, n);
-}
-
 // How many lines were filed, the used length then, and the refusal that ended it.
-#[derive(Drop)]
+#[derive(Clone, Copy)]
 struct Filling {
     pub lines: u64,
     pub used: usize,
@@ -23,8 +19,7 @@ struct Filling {
 // Files a case again and again until it is refused.
 fn fill(register: &mut [u8], line: &[u8]) -> Filling {
     let mut used = 0;
-    let mut lines: u64 = 0;
-    while lines < 1000 {
+    for lines in 0..1000 {
         let filed = register::file(register, used, FIRST_NUMBER, line);
         let refusal = filed.refusal;
         if refusal != 0 {
@@ -35,70 +30,63 @@ fn fill(register: &mut [u8], line: &[u8]) -> Filling {
             };
         }
         used = filed.used;
-        lines += 1;
     }
     Filling {
-        lines,
+        lines: 1000,
         used,
         refusal: 0,
     }
 }
 
 // What filing a line answers, whose register stays as it is.
-fn refused(register: &mut [u8], used: usize, line: &[u8]) {
+fn refused(rt: &impl Print, register: &mut [u8], used: usize, line: &[u8]) -> io::Result<()> {
     let filed = register::file(register, used, FIRST_NUMBER, line);
-    number(filed.refusal as u64);
-    text(b"\n");
+    println!(rt; "{}", filed.refusal)
 }
 
-fn checked(register: &[u8], used: usize) {
+fn checked(rt: &impl Print, register: &[u8], used: usize) -> io::Result<()> {
     let found = register::check(register, used);
-    number(found.refusal as u64);
-    text(b" at offset ");
-    number(found.offset as u64);
-    text(b"\n");
+    println!(rt; "{} at offset {}", found.refusal, found.offset)
 }
 
-fn found_number(register: &[u8], used: usize, quote: u32) {
-    text(register::find_number(register, used, quote));
+fn found_number(rt: &impl Print, register: &[u8], used: usize, quote: u32) -> io::Result<()> {
+    rt.write_all(register::find_number(register, used, quote))?;
     let found = register::locate_number(register, used, quote);
-    number(found.refusal as u64);
-    text(b"\n");
+    println!(rt; "{}", found.refusal)
 }
 
-fn found_member(register: &[u8], used: usize, member: u32) {
-    text(register::find_member(register, used, member));
+fn found_member(rt: &impl Print, register: &[u8], used: usize, member: u32) -> io::Result<()> {
+    rt.write_all(register::find_member(register, used, member))?;
     let found = register::locate_member(register, used, member);
-    let located = found.located;
-    number(located.refusal as u64);
-    text(b", lines compared: ");
-    number(found.compared as u64);
-    text(b"\n");
+    println!(rt;
+        "{}, lines compared: {}",
+        found.located.refusal, found.compared
+    )
 }
 
-fn main() {
-    let mut register = io::large_buffer();
+fn main(rt: HostRuntime) -> io::Result<()> {
+    let mut register = [0u8; REGISTER_LENGTH];
     let line = b"0000000107B2060F07E707010101002DC6C007C9060107E70701000000000000000000";
     let filled = fill(&mut register, line);
     let used = filled.used;
-    number(filled.lines);
-    text(b" lines filed, then refusal ");
-    number(filled.refusal as u64);
-    text(b"\n");
-    text(b"A bad character still gives refusal ");
-    refused(&mut register, used, b"x");
-    text(b"An empty line still gives refusal ");
-    refused(&mut register, used, b"");
-    text(b"The check gives ");
-    checked(&register, used);
-    text(b"The check of one byte more, 65462, gives ");
-    checked(&register, 65462);
-    text(b"Number 541 and its refusal:\n");
-    found_number(&register, used, 541);
-    text(b"Number 542, which is absent: ");
-    found_number(&register, used, 542);
-    text(b"The newest line of member 1, its refusal and how many lines were compared:\n");
-    found_member(&register, used, 1);
-    text(b"Member 2, who is absent: ");
-    found_member(&register, used, 2);
+    println!(rt;
+        "{} lines filed, then refusal {}",
+        filled.lines, filled.refusal
+    )?;
+    print!(rt; "A bad character still gives refusal ")?;
+    refused(&rt, &mut register, used, b"x")?;
+    print!(rt; "An empty line still gives refusal ")?;
+    refused(&rt, &mut register, used, b"")?;
+    print!(rt; "The check gives ")?;
+    checked(&rt, &register, used)?;
+    print!(rt; "The check of one byte more, 65462, gives ")?;
+    checked(&rt, &register, 65462)?;
+    println!(rt; "Number 541 and its refusal:")?;
+    found_number(&rt, &register, used, 541)?;
+    print!(rt; "Number 542, which is absent: ")?;
+    found_number(&rt, &register, used, 542)?;
+    println!(rt; "The newest line of member 1, its refusal and how many lines were compared:")?;
+    found_member(&rt, &register, used, 1)?;
+    print!(rt; "Member 2, who is absent: ")?;
+    found_member(&rt, &register, used, 2)
 }
