@@ -5,7 +5,8 @@
 use Prim.Native.Nat.{ℕ, zero, suc, ◌+◌, ◌-◌, ◌*◌, ◌%◌, ◌≤◌, ◌<◌}
 use mathlib.Core.Bool.{Bool, true, false, cond, true≢false}
 use mathlib.Core.List.{List, [], ◌∷◌, ◌++◌}
-use mathlib.Core.Path.{◌≡◌, refl}
+use mathlib.Core.Logic.{◌⊎◌, inl, inr, ⊎_elim}
+use mathlib.Core.Path.{◌≡◌, refl, sym, ◌∙◌, ap}
 use native.Mathlib.Decide.{dec_lt}
 use native.Mathlib.Nat.{mul-mod_left}
 use native.Mathlib.Omega.{arith}
@@ -14,6 +15,7 @@ use lib.ListN.{length, get_or}
 use borrow.Author.Tests.{lt-ltb, le-ltb, ltb-true, ltb-false, eqb-true, eq-eqb, ne_eqb, not-false}
 use Rattle.calendar.proofs.TestsLaws.{or_left, or_right}
 use Rattle.split.proofs.FrameLaws.{number_below}
+use Rattle.register.specs.declared.answers.Checked.{Checked}
 use Rattle.register.specs.Line.{figure_width, text_length, line_for, number_in}
 use Rattle.register.specs.Layout.{Layout, Register, length_of, used_lines_by, used_by, line_layout, line_length}
 use Rattle.register.specs.Check.{following, number_after, wrong_number, unsound, bad_at, first_bad, line_fault, check_lines_by, bad_used_by, check_by}
@@ -47,7 +49,7 @@ unfolding wrong_number
 next_right n h = simp (ne_eqb n 0 (omega arith), eq-eqb n n refl)
 
 -- a number that is right where one is expected is that one
-right_same : (expected number : ℕ) → 0 < expected → wrong_number expected number ≡ false → number ≡ expected
+pub right_same : (expected number : ℕ) → 0 < expected → wrong_number expected number ≡ false → number ≡ expected
 unfolding wrong_number
 right_same expected number h e =
     eqb-true number expected (not-false (eqb number expected) (simp (ne_eqb expected 0 (omega arith)) at e))
@@ -88,6 +90,23 @@ module _ (y : Layout) (l : List ℕ) where
             | no h ↦ let e : j ≡ i = omega arith in rw e here
           ]
 
+  -- either no character before a place is bad, or some first one is
+  pub record FoundBad (n : ℕ) : Type 0 where
+    pub place : ℕ
+    pub inside : place < n
+    pub good : Good place
+    pub bad : bad_at y l place ≡ true
+
+  search_bad : (n : ℕ) → Good n ⊎ FoundBad n
+  search_bad zero = inl (λ j h. absurd (omega arith))
+  search_bad (suc n) =
+      ⊎_elim (λ good. go good (bad_at y l n) refl)
+      (λ f. let i = f.inside in inr (record { place = f.place; inside = omega arith; good = f.good; bad = f.bad })) (search_bad n)
+    where
+      go : Good n → (b : Bool) → bad_at y l n ≡ b → Good (suc n) ⊎ FoundBad (suc n)
+      go good true e = inr (record { place = n; inside = omega arith; good = good; bad = e })
+      go good false e = inl (λ j h. elim (dec_lt j n) [ yes i ↦ good j i | no i ↦ let same : j ≡ n = omega arith in rw same e ])
+
   module _ (wide : figure_width ≤ y.text) (expected : ℕ) where
     -- a line whose number has good digits and is wrong
     pub fault_number : Good figure_width → wrong_number expected (number_in l) ≡ true → line_fault y expected l ≡ 0
@@ -123,6 +142,39 @@ module _ (y : Layout) (l : List ℕ) where
           all,
           le-ltb (length_of y) (length_of y) (omega arith),
         )
+
+    -- it has failed, or the line has no fault
+    pub fault_whole : Good (length_of y) → wrong_number expected (number_in l) ≡ false → y.late l ≡ true
+        → line_fault y expected l ≡ y.late_place
+    fault_whole good right failed = fault_late good right ∙ simp failed
+
+    pub fault_none : Good (length_of y) → wrong_number expected (number_in l) ≡ false → y.late l ≡ false
+        → line_fault y expected l ≡ length_of y
+    fault_none good right passed = fault_late good right ∙ simp passed
+
+    -- a line has no fault, or one at a place
+    pub data Judged : Type 0 where
+      is_fine : Good (length_of y) → wrong_number expected (number_in l) ≡ false → y.late l ≡ false → Judged
+      has_bad_character : (place : ℕ) → place < length_of y → Good place → bad_at y l place ≡ true
+          → (figure_width ≤ place → wrong_number expected (number_in l) ≡ false) → Judged
+      has_bad_number : Good figure_width → wrong_number expected (number_in l) ≡ true → Judged
+      fails_late : Good (length_of y) → wrong_number expected (number_in l) ≡ false → y.late l ≡ true → Judged
+
+    pub judged : Judged
+    judged = go (wrong_number expected (number_in l)) refl (search_bad figure_width)
+      where
+        by_late : (b : Bool) → y.late l ≡ b → Good (length_of y) → wrong_number expected (number_in l) ≡ false → Judged
+        by_late true e good right = fails_late good right e
+        by_late false e good right = is_fine good right e
+
+        go : (w : Bool) → wrong_number expected (number_in l) ≡ w → Good figure_width ⊎ FoundBad figure_width → Judged
+        go w e (inr f) =
+            let i = f.inside in
+            has_bad_character f.place (omega arith) f.good f.bad (λ h. absurd (omega arith))
+        go true e (inl good) = has_bad_number good e
+        go false e (inl good) =
+            ⊎_elim (λ all. by_late (y.late l) refl all e)
+            (λ f. has_bad_character f.place f.inside f.good f.bad (λ h. e)) (search_bad (length_of y))
 
     -- a line without a fault has good characters and a right number
     faultless : ltb (line_fault y expected l) (length_of y) ≡ false → Good (length_of y) × (wrong_number expected (number_in l) ≡ false)
@@ -217,17 +269,31 @@ module _ (y : Layout) where
   whole_used buffer ls h room =
       simp (whole_length y ls h, le-ltb buffer (length ls * length_of y) (omega (arith, whole_length y ls h)), mul-mod_left)
 
+  -- what the check finds: a bad used length as itself, else what its lines give
+  pub check_used : (r : Register) → bad_used_by y (length r.bytes) r.used ≡ true → check_by y r ≡ unsound r.used
+  unfolding check_by
+  check_used r bad = simp bad
+
+  pub check_whole : (r : Register) → bad_used_by y (length r.bytes) r.used ≡ false
+      → check_by y r ≡ check_lines_by y 0 0 (used_lines_by y r)
+  unfolding check_by
+  check_whole r fine = simp fine
+
+  check_refused : (r : Register) → bad_used_by y (length r.bytes) r.used ≡ true → (check_by y r).refusal ≡ 11
+  unfolding check_by
+  check_refused r bad = simp bad
+
   -- a register without a fault has a good used length and sound lines
   pub check_sound : (r : Register) → (check_by y r).refusal ≡ 0
       → (r.used ≤ length r.bytes) × (r.used % length_of y ≡ 0) × ((check_lines_by y 0 0 (used_lines_by y r)).refusal ≡ 0)
-  unfolding check_by
-  check_sound r = go (bad_used_by y (length r.bytes) r.used) refl
+  check_sound r e = go (bad_used_by y (length r.bytes) r.used) refl
     where
       go : (b : Bool) → bad_used_by y (length r.bytes) r.used ≡ b
-          → (cond b (unsound r.used) (check_lines_by y 0 0 (used_lines_by y r))).refusal ≡ 0
           → (r.used ≤ length r.bytes) × (r.used % length_of y ≡ 0) × ((check_lines_by y 0 0 (used_lines_by y r)).refusal ≡ 0)
-      go true bad e = absurd (omega arith)
-      go false fine e = let u = used_sound (length r.bytes) r.used fine in (u.0, u.1, e)
+      go true bad = absurd (omega (arith, e, check_refused r bad))
+      go false fine =
+          let u = used_sound (length r.bytes) r.used fine in
+          (u.0, u.1, sym (ap (λ (k : Checked). k.refusal) (check_whole r fine)) ∙ e)
 
 -- the layout of a line has room for its number, and a written line has no fault where its number is right
 pub number_inside : figure_width ≤ text_length

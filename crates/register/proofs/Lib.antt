@@ -1,5 +1,6 @@
 -- Names: `XLaws` has laws of the definitions of specs/X; `XLoop` has what a turn of a loop of src/ does, in the code's numbers;
 -- every other file is named for the argument that it makes.
+pub mod CheckClaim
 pub mod CheckLaws
 pub mod CheckLoop
 pub mod Compared

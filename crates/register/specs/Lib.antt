@@ -1,4 +1,5 @@
 pub mod Check
+pub mod CheckClaim
 pub mod Figures
 pub mod File
 pub mod Find

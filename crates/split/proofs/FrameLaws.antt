@@ -1,18 +1,19 @@
 -- Laws of fields: a digit is below 16, a number of n digits below 16 to the n, read a digit at a time or split into two
 -- numbers, and a digit's value is arithmetic of its character. Assumes nothing.
 use mathlib.Core.Path.{◌≡◌, refl}
-use mathlib.Core.Bool.{false, ◌||◌}
-use Prim.Native.Nat.{ℕ, zero, suc, ◌+◌, ◌*◌, ◌/◌, ◌%◌, ◌^◌, ◌<◌, ◌≤◌}
+use mathlib.Core.Bool.{Bool, true, false, cond, ◌&&◌, ◌||◌, true≢false}
+use mathlib.Core.Logic.{◌↔◌, ◌⊎◌, inl, inr, ⊎_elim}
+use Prim.Native.Nat.{ℕ, zero, suc, ◌+◌, ◌-◌, ◌*◌, ◌/◌, ◌%◌, ◌^◌, ◌<◌, ◌≤◌}
 use native.Mathlib.Nat.{add_assoc, add-zero, add-suc, mul_assoc, pow-suc, pow-le-pow_right, lt_of_lt_of_le}
 use native.Mathlib.Numerals.{add-one}
 use native.Mathlib.Omega.{arith}
 use mathlib.Core.List.{List}
-use lib.Dec.{eqb}
+use lib.Dec.{leb, eqb}
 use lib.ListN.{length, get_or, get_or-eq_default}
-use borrow.Author.Tests.{eqb-true}
+use borrow.Author.Tests.{eqb-true, ne_eqb, leb-true, le-leb, lt-leb}
 use Rattle.factors.proofs.Table.{below_at}
 use Rattle.split.specs.Frame.{is_no_digit, bad_character, digit_at, number_at, hex_value}
-use Rattle.calendar.proofs.TestsLaws.{any_none}
+use Rattle.calendar.proofs.TestsLaws.{and_left, and_right, any_none}
 
 pub digit_below : (s : List ℕ) (at : ℕ) → digit_at s at < 16
 unfolding digit_at
@@ -54,6 +55,22 @@ digit_worth c h e =
     eqb-true _ _
     (rw e at
     (below_at 256 (λ (k : ℕ). is_no_digit k || eqb ((k % 16 + 9 * (k / 64)) % 16) (hex_value k % 16)) refl c h))
+
+-- a character that is a digit is one of 0-9 and A-F
+pub digit_range : (c : ℕ) → (is_no_digit c ≡ false) ↔ (((48 ≤ c) × (c ≤ 57)) ⊎ ((65 ≤ c) × (c ≤ 70)))
+unfolding hex_value is_no_digit
+digit_range c = (
+  λ e. go (leb 48 c && leb c 57) refl (leb 65 c && leb c 70) refl e,
+  ⊎_elim
+      (λ h. simp (le-leb 48 c h.0, le-leb c 57 h.1) (ne_eqb (c - 48) 16 (omega arith)))
+      (λ h. simp (le-leb 48 c (omega arith), lt-leb c 57 (omega arith), le-leb 65 c h.0, le-leb c 70 h.1) (ne_eqb (c - 55) 16 (omega arith))),
+)
+  where
+    go : (a : Bool) → (leb 48 c && leb c 57) ≡ a → (b : Bool) → (leb 65 c && leb c 70) ≡ b
+        → eqb (cond a (c - 48) (cond b (c - 55) 16)) 16 ≡ false → ((48 ≤ c) × (c ≤ 57)) ⊎ ((65 ≤ c) × (c ≤ 70))
+    go true p b q e = inl (leb-true 48 c (and_left (leb 48 c) (leb c 57) p), leb-true c 57 (and_right (leb 48 c) (leb c 57) p))
+    go false p true q e = inr (leb-true 65 c (and_left (leb 65 c) (leb c 70) q), leb-true c 70 (and_right (leb 65 c) (leb c 70) q))
+    go false p false q e = absurd (true≢false e)
 
 -- in a line of digits each character is one
 pub digit_known : (s : List ℕ) (at : ℕ) → bad_character s ≡ false → at < length s → is_no_digit (get_or s at 0) ≡ false

@@ -19,6 +19,7 @@ pub mod Level
 pub mod LimitsLaws
 pub mod ListLoop
 pub mod MultipleLaws
+pub mod OverlongLaws
 pub mod PensionsLoop
 pub mod Prices
 pub mod QuoteLaws

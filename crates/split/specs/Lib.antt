@@ -8,6 +8,7 @@ pub mod Figures
 pub mod Frame
 pub mod Grant
 pub mod Limits
+pub mod Overlong
 pub mod Quote
 pub mod Ranges
 pub mod Refusal

@@ -7,6 +7,7 @@ mod case;
 mod frame;
 mod grant;
 mod limits;
+mod overlong;
 mod pensions;
 mod quoting;
 mod refusal;
@@ -18,6 +19,7 @@ ghost use Rattle.split.specs.Quote.{quote_of};
 use answers::Quote;
 use frame::Cursor;
 pub use frame::{LONGEST, has_bad_character, hex_value, number_at};
+pub use overlong::keep_line;
 
 // The refusal of a line of a length that no case has.
 fn unread_quote(line: &[u8]) -> Quote

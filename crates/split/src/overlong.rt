@@ -1,0 +1,46 @@
+// Overlong lines: what is kept of the beginning of a line whose end has not been read.
+ghost use Rattle.std.specs.Prelude.{◌≡◌, ◌++◌, ◌+◌, ◌-◌, ◌≤◌, min, length, take, drop};
+ghost use Rattle.split.specs.Overlong.{kept_line, QuotedAs};
+
+use crate::frame;
+
+// One character more than the longest case line has: a longer line is refused by its characters and its length alone.
+const KEPT: usize = frame::LONGEST + 1;
+
+// The lower of two counts.
+fn least(first: usize, second: usize) -> usize
+    ensures { result ≡ min first second }
+{
+    if second < first { second } else { first }
+}
+
+// Moves characters of a text, from a place on, to its start.
+fn move_to_start(text: &mut [u8], from: usize, count: usize)
+    requires { from + count ≤ length text.old }
+    ensures { text.new ≡ take count (drop from text.old) ++ drop count text.old }
+{
+    let mut i = 0;
+    while i < count {
+        text[i] = text[from + i];
+        i += 1;
+    }
+}
+
+// Keeps what a text has from a place on, the beginning of a line, at the text's start, and says how many characters are kept.
+// However the line goes on, what is kept and the rest are quoted as the whole line is.
+pub fn keep_line(text: &mut [u8], from: usize) -> usize
+    ensures count { result ≡ length (kept_line (drop from text.old)) }
+    ensures written { text.new ≡ kept_line (drop from text.old) ++ drop result text.old }
+    ensures quoted { QuotedAs (take result text.new) (drop from text.old) }
+{
+    let end = text.len();
+    let start = least(from, end);
+    let kept = least(KEPT, end - start);
+    let bad = frame::has_bad_character(&text[start + kept..end]);
+    move_to_start(text, start, kept);
+    if !bad {
+        return kept;
+    }
+    text[0] = 0;
+    kept
+}
