@@ -17,11 +17,9 @@ returns-then-not-year c = rw (c.if-not-day.false, c.if-not-month.false, c.if-not
 pub returns-then-not-has_day : goal.returns-then-not-has_day
 unfolding day_in month_in year_in broken_tests date_fault
 returns-then-not-has_day c =
-    let e = c in
-    rw (e.if-not-day.false, e.if-not-month.false, e.if-not-year.false, ← c.has_day.ensures, c.if-not-has_day.true)
+    rw (c.if-not-day.false, c.if-not-month.false, c.if-not-year.false, ← c.has_day.ensures, c.if-not-has_day.true)
 
 pub returns : goal.returns
 unfolding day_in month_in year_in broken_tests date_fault
 returns c =
-    let e = c in
-    rw (e.if-not-day.false, e.if-not-month.false, e.if-not-year.false, ← c.has_day.ensures, c.if-not-has_day.false)
+    rw (c.if-not-day.false, c.if-not-month.false, c.if-not-year.false, ← c.has_day.ensures, c.if-not-has_day.false)

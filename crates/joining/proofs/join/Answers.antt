@@ -37,12 +37,10 @@ returns-then-second_checked-ne0 c =
 
 pub join_ordered-requires : goal.join_ordered-requires
 join_ordered-requires c =
-    let n = c in
-    let e = n in
     record {
       low_sound = sound₂ ((goal.at.join_ordered-requires c).Else-second_checked-ne0);
       high_sound = sound ((goal.at.join_ordered-requires c).Else-first_checked-ne0);
-      order = omega (arith, n.first_number.ensures, n.first_number-2.ensures, c.if-first_number.true);
+      order = omega (arith, c.first_number.ensures, c.first_number-2.ensures, c.if-first_number.true);
     }
 
 pub returns-then-first_number : goal.returns-then-first_number
@@ -50,12 +48,10 @@ returns-then-first_number c = same_step _ _ _ _ (join_swapped _ _ _) c.join_orde
 
 pub join_ordered-requires-2 : goal.join_ordered-requires-2
 join_ordered-requires-2 c =
-    let n = c in
-    let e = n in
     record {
       low_sound = sound ((goal.at.join_ordered-requires-2 c).Else-first_checked-ne0);
       high_sound = sound₂ ((goal.at.join_ordered-requires-2 c).Else-second_checked-ne0);
-      order = omega (arith, n.first_number.ensures, n.first_number-2.ensures, c.if-first_number.false);
+      order = omega (arith, c.first_number.ensures, c.first_number-2.ensures, c.if-first_number.false);
     }
 
 pub returns : goal.returns

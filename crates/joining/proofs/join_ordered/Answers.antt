@@ -10,8 +10,7 @@ use Rattle.joining.proofs.join_ordered.Goals as goal
 pub returns-then-lines-before : goal.returns-then-lines-before
 unfolding text_length
 returns-then-lines-before c =
-    let l = c in
-    gap_refused _ _ _ _ _ l.requires _ l.lines_before-before.ensures _ c.refused.ensures c.if-lines-before.true
+    gap_refused _ _ _ _ _ c.requires _ c.lines_before-before.ensures _ c.refused.ensures c.if-lines-before.true
 
 pub slice_bounds-is_unlike-end : goal.slice_bounds-is_unlike-end
 unfolding text_length
@@ -28,10 +27,8 @@ slice_bounds-is_unlike-end-2 c =
 pub returns-then-is_unlike : goal.returns-then-is_unlike
 unfolding text_length
 returns-then-is_unlike c =
-    let n = c in
-    let l = n in
-    unlike_refused _ _ _ _ _ l.requires _ l.lines_before-before.ensures n.if-lines-before.false _
-    n.least-common_length.ensures _ c.refused-then-is_unlike.ensures (sym c.is_unlike.ensures ∙ c.if-is_unlike.true)
+    unlike_refused _ _ _ _ _ c.requires _ c.lines_before-before.ensures c.if-lines-before.false _
+    c.least-common_length.ensures _ c.refused-then-is_unlike.ensures (sym c.is_unlike.ensures ∙ c.if-is_unlike.true)
 
 pub slice_bounds-write_parts-end : goal.slice_bounds-write_parts-end
 slice_bounds-write_parts-end c =
@@ -46,10 +43,7 @@ slice_bounds-write_parts-end-2 c =
 pub returns : goal.returns
 unfolding text_length
 returns c =
-    let n = c in
-    let l = n in
-    let u = c in
     same_step _ _ _ _
-    (alike_written _ _ _ _ _ l.requires _ l.lines_before-before.ensures n.if-lines-before.false _
-    n.least-common_length.ensures (sym u.is_unlike.ensures ∙ u.if-is_unlike.false))
+    (alike_written _ _ _ _ _ c.requires _ c.lines_before-before.ensures c.if-lines-before.false _
+    c.least-common_length.ensures (sym c.is_unlike.ensures ∙ c.if-is_unlike.false))
     c.write_parts.ensures

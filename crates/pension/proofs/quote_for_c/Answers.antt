@@ -16,10 +16,9 @@ loop-i-init c = (
 
 pub loop-i-preserved : goal.loop-i-preserved
 loop-i-preserved c =
-    let test = c in
-    let l = test.loop-i in
-    let four = test.requires in
-    let h = test.loop-i-test.true in (
+    let l = c.loop-i in
+    let four = c.requires in
+    let h = c.loop-i-test.true in (
       omega arith,
       filled_more l.invariant.1 four no_share h,
       filled_more l.invariant.2 four no_share h,
@@ -29,17 +28,15 @@ loop-i-preserved c =
 pub returns : goal.returns
 unfolding quote_for_c
 returns c =
-    let test = c in
-    let l = test.loop-i in
-    let start = test in
-    let q = start.args.quote in
+    let l = c.loop-i in
+    let q = c.args.quote in
     let h = l.invariant.0 in
-    let g = test.loop-i-test.false in
+    let g = c.loop-i-test.false in
     λ i. record {
       refusal = q.refusal;
       member = q.member;
       total = q.total.0;
-      lump = filled_all l.invariant.1 start.requires h g i;
-      remaining = filled_all l.invariant.2 start.requires h g i;
-      second = filled_all l.invariant.3 start.requires h g i;
+      lump = filled_all l.invariant.1 c.requires h g i;
+      remaining = filled_all l.invariant.2 c.requires h g i;
+      second = filled_all l.invariant.3 c.requires h g i;
     }

@@ -32,16 +32,13 @@ headed : (c : After-read_head-read)
     → c.read_head-read.result.value ≡ head_of c.args.line.now
 unfolding head_of
 headed c =
-    let e = c in
-    c.read_head-read.ensures.value _ (e.decode.ensures.1 e.if-decode.false)
+    c.read_head-read.ensures.value _ (c.decode.ensures.1 c.if-decode.false)
     (omega (arith, sized ((goal.at.After-read_head-read c).Else-line), c.read_head-read.ensures.next))
 
 pub returns-then-has_bad_length : goal.returns-then-has_bad_length
 returns-then-has_bad_length c =
-    let e = c in
-    let r = e in
     quote_refused _ 2 _ (λ z. omega arith)
-    (refused_length _ _ (digits ((goal.at.returns-then-has_bad_length c).Else-decode)) (headed ((goal.at.returns-then-has_bad_length c).After-read_head-read)) (sym e.has_bad_length.ensures ∙ c.if-has_bad_length.true))
+    (refused_length _ _ (digits ((goal.at.returns-then-has_bad_length c).Else-decode)) (headed ((goal.at.returns-then-has_bad_length c).After-read_head-read)) (sym c.has_bad_length.ensures ∙ c.if-has_bad_length.true))
     c.refused_quote-then-has_bad_length.ensures
 
 -- past the third its length is that of its count
@@ -52,17 +49,12 @@ measured c = sym c.has_bad_length.ensures ∙ c.if-has_bad_length.false
 
 pub case_quote-requires : goal.case_quote-requires
 case_quote-requires c =
-    let e = c in
-    let r = e in
-    (r.read_head-read.ensures.next, measured ((goal.at.case_quote-requires c).Else-has_bad_length))
+    (c.read_head-read.ensures.next, measured ((goal.at.case_quote-requires c).Else-has_bad_length))
 
 pub returns : goal.returns
 returns c =
-    let e = c in
-    let r = e in
-    let d = r in
     quote_read _ _ _ (headed ((goal.at.returns c).After-read_head-read)) (refused_case _ _ (digits ((goal.at.returns c).Else-decode)) (headed ((goal.at.returns c).After-read_head-read)) (measured ((goal.at.returns c).Else-has_bad_length)))
-    (c.case_quote.ensures _ (d.decode.ensures.1 d.if-decode.false) (omega arith))
+    (c.case_quote.ensures _ (c.decode.ensures.1 c.if-decode.false) (omega arith))
 
 pub unread_quote-requires : goal.unread_quote-requires
 unread_quote-requires c = length_unlisted _ c.if-line.true

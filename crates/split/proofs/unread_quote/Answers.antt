@@ -13,8 +13,7 @@ returns-then-has_bad_character c =
 
 pub returns : goal.returns
 returns c =
-    let start = c in
     quote_refused _ 2 _ (λ e. omega arith)
-    (refused_length _ (head_of start.args.line.now) (sym c.has_bad_character.ensures ∙ c.if-has_bad_character.false) refl
-    (start.requires _))
+    (refused_length _ (head_of c.args.line.now) (sym c.has_bad_character.ensures ∙ c.if-has_bad_character.false) refl
+    (c.requires _))
     c.refused_quote-2.ensures

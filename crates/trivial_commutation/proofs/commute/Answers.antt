@@ -19,9 +19,7 @@ returns-then-is_refused c = rw (← c.is_refused.ensures, c.if-is_refused.true)
 pub returns : goal.returns
 unfolding trivial_commutation
 returns c =
-    let f = c in
-    let t = f in
-    rw (← t.is_refused.ensures, t.if-is_refused.false, ← f.factors_of-factors.ensures)
+    rw (← c.is_refused.ensures, c.if-is_refused.false, ← c.factors_of-factors.ensures)
     (λ i. record { refusal = 0; lump = record { 0 = c.lump_sum.ensures i } })
 
 pub overflow_cast-for_member : goal.overflow_cast-for_member

@@ -5,5 +5,4 @@ use Rattle.trivial_commutation.proofs.is_refused.Goals as goal
 pub returns : goal.returns
 unfolding bad_age bad_scheme bad_pension refused
 returns c =
-    let t = c in
-    rw (t.«uses_table_1».ensures, t.«uses_table_2».ensures)
+    rw (c.«uses_table_1».ensures, c.«uses_table_2».ensures)

@@ -16,8 +16,6 @@ raised c = elim c.if-second.branch [ then-second w ↦ rw w.if-second.true w.inc
 
 pub returns : goal.returns
 returns c =
-    let k = c in
-    let j = k in
-    let s = j.args in
-    multiple_made s.kind j.if-first_or_second.f1 k.if-second.increase _ _ s.t (chosen ((goal.at.returns c).Joined-first_or_second)) (raised ((goal.at.returns c).Joined-second)) c.lump_top-top.ensures.0
+    let s = c.args in
+    multiple_made s.kind c.if-first_or_second.f1 c.if-second.increase _ _ s.t (chosen ((goal.at.returns c).Joined-first_or_second)) (raised ((goal.at.returns c).Joined-second)) c.lump_top-top.ensures.0
     c.lump_bottom-bottom.ensures

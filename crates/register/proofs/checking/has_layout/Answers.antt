@@ -23,9 +23,7 @@ bounds-line-120 c = omega arith
 pub returns : goal.returns
 unfolding text_length
 returns c =
-    let last = c in
-    let whole = last in
-    let line = whole.args.line.now in
+    let line = c.args.line.now in
     ap (λ (b : Bool). not b && eqb (get_or line text_length 0) 10)
-    (spans_judged line 112 104 16 _ _ (omega arith) (omega arith) (omega arith) whole.has_bad_character-bad_whole.ensures
-    last.has_bad_character-bad_last.ensures)
+    (spans_judged line 112 104 16 _ _ (omega arith) (omega arith) (omega arith) c.has_bad_character-bad_whole.ensures
+    c.has_bad_character-bad_last.ensures)

@@ -60,11 +60,9 @@ right c = right_next c.loop-place.place _ c.if-place-wrong.false c.loop-place.in
 pub loop-place-preserved : goal.loop-place-preserved
 unfolding text_length
 loop-place-preserved c =
-    let e = c in
-    let p = e.loop-place in
-    let l = e in (
+    let p = c.loop-place in (
       omega arith,
-      good_more line_layout number_inside l.args.register.now l.lines.at p.place e.loop-place-test.true p.invariant.1
+      good_more line_layout number_inside c.args.register.now c.lines.at p.place c.loop-place-test.true p.invariant.1
           (sym c.is_bad.ensures ∙ c.if-is_bad.false),
       λ h. right ((goal.at.loop-place-preserved c).Else-place-wrong) (omega arith),
     )
@@ -72,20 +70,16 @@ loop-place-preserved c =
 pub lines-preserved : goal.lines-preserved
 unfolding text_length
 lines-preserved c =
-    let j = c in
-    let w = j in
-    let n = w in
-    let l = n in
-    let s = l.args.register.now in
-    let on = left_on line_layout number_inside s l.lines.invariant n.if-used-at.false n.line_number-number.result n.line_number-number.ensures in
+    let s = c.args.register.now in
+    let on = left_on line_layout number_inside s c.lines.invariant c.if-used-at.false c.line_number-number.result c.line_number-number.ensures in
     rw c.following_number-expected.ensures
-    (elim j.if-wrong-whole.branch [
+    (elim c.if-wrong-whole.branch [
       | then-wrong-whole+else-loop-place-test b ↦ let all : b.loop-place.place ≡ lineSize = omega arith in
-          on (rw all at b.loop-place.invariant.1) (sym w.is_wrong_number-wrong.ensures ∙ b.loop-place.invariant.2 (omega arith)) refl
+          on (rw all at b.loop-place.invariant.1) (sym c.is_wrong_number-wrong.ensures ∙ b.loop-place.invariant.2 (omega arith)) refl
       | else-wrong-whole b ↦ on
-          (good_whole line_layout number_inside s l.lines.at j.has_layout-whole.result (omega (arith, inside ((goal.at.lines-preserved c).Else-used-at))) j.has_layout-whole.ensures
-          (not-false _ (or_right w.is_wrong_number-wrong.result (not j.has_layout-whole.result) b.if-wrong-whole.false)))
-          (sym w.is_wrong_number-wrong.ensures ∙ or_left w.is_wrong_number-wrong.result (not j.has_layout-whole.result) b.if-wrong-whole.false) refl
+          (good_whole line_layout number_inside s c.lines.at c.has_layout-whole.result (omega (arith, inside ((goal.at.lines-preserved c).Else-used-at))) c.has_layout-whole.ensures
+          (not-false _ (or_right c.is_wrong_number-wrong.result (not c.has_layout-whole.result) b.if-wrong-whole.false)))
+          (sym c.is_wrong_number-wrong.ensures ∙ or_left c.is_wrong_number-wrong.result (not c.has_layout-whole.result) b.if-wrong-whole.false) refl
     ])
 
 pub returns-then-used-at : goal.returns-then-used-at
@@ -95,24 +89,18 @@ returns-then-used-at c =
 
 pub returns-then-place-wrong : goal.returns-then-place-wrong
 returns-then-place-wrong c =
-    let t = c in
-    let p = t.loop-place in
-    let w = t in
-    let l = w in
+    let p = c.loop-place in
     let here : p.place ≡ figure_width =
-    eqb-true p.place figure_width (and_left (eqb p.place figure_width) w.is_wrong_number-wrong.result t.if-place-wrong.true)
+    eqb-true p.place figure_width (and_left (eqb p.place figure_width) c.is_wrong_number-wrong.result c.if-place-wrong.true)
     in
     scanned_unsound c.unsound.ensures
-    (stop_number line_layout number_inside _ l.lines.invariant w.if-used-at.false _ w.line_number-number.ensures (rw here at p.invariant.1)
-    (sym w.is_wrong_number-wrong.ensures ∙ and_right (eqb p.place figure_width) w.is_wrong_number-wrong.result t.if-place-wrong.true))
+    (stop_number line_layout number_inside _ c.lines.invariant c.if-used-at.false _ c.line_number-number.ensures (rw here at p.invariant.1)
+    (sym c.is_wrong_number-wrong.ensures ∙ and_right (eqb p.place figure_width) c.is_wrong_number-wrong.result c.if-place-wrong.true))
 
 pub returns-then-is_bad : goal.returns-then-is_bad
 unfolding text_length
 returns-then-is_bad c =
-    let e = c in
-    let p = e.loop-place in
-    let w = e in
-    let l = w in
+    let p = c.loop-place in
     scanned_unsound c.unsound-then-is_bad.ensures
-    (stop_character line_layout number_inside _ l.lines.invariant w.if-used-at.false _ w.line_number-number.ensures p.place e.loop-place-test.true p.invariant.1
-    (sym c.is_bad.ensures ∙ c.if-is_bad.true) (λ h. sym w.is_wrong_number-wrong.ensures ∙ right ((goal.at.returns-then-is_bad c).Else-place-wrong) h))
+    (stop_character line_layout number_inside _ c.lines.invariant c.if-used-at.false _ c.line_number-number.ensures p.place c.loop-place-test.true p.invariant.1
+    (sym c.is_bad.ensures ∙ c.if-is_bad.true) (λ h. sym c.is_wrong_number-wrong.ensures ∙ right ((goal.at.returns-then-is_bad c).Else-place-wrong) h))

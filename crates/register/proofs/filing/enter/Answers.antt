@@ -26,18 +26,15 @@ overflow_sub-register c = inside ((goal.at.overflow_sub-register c).Else-known-n
 pub returns-then-register-used-lt-LINE_LENGTH : goal.returns-then-register-used-lt-LINE_LENGTH
 unfolding text_length
 returns-then-register-used-lt-LINE_LENGTH c =
-    let e = c in
-    let pre = e.requires in
-    let p = space_refused _ _ _ pre.0 pre.1 e.if-known-ne0.false c.if-register-used-lt-LINE_LENGTH.true in
+    let pre = c.requires in
+    let p = space_refused _ _ _ pre.0 pre.1 c.if-known-ne0.false c.if-register-used-lt-LINE_LENGTH.true in
     (c.refused-then-register-used-lt-LINE_LENGTH.ensures ∙ p.0, p.1)
 
 pub returns-then-number-ge4294967296 : goal.returns-then-number-ge4294967296
 unfolding text_length
 returns-then-number-ge4294967296 c =
-    let n = c in
-    let e = n in
-    let pre = e.requires in
-    let p = last_refused _ _ _ pre.0 pre.1 e.if-known-ne0.false e.if-register-used-lt-LINE_LENGTH.false _ n.number_given-number.ensures c.if-number-ge4294967296.true in
+    let pre = c.requires in
+    let p = last_refused _ _ _ pre.0 pre.1 c.if-known-ne0.false c.if-register-used-lt-LINE_LENGTH.false _ c.number_given-number.ensures c.if-number-ge4294967296.true in
     (c.refused-then-number-ge4294967296.ensures ∙ p.0, p.1)
 
 pub overflow_add-end : goal.overflow_add-end
@@ -49,14 +46,11 @@ slice_bounds-write_line-end c = omega (arith, inside ((goal.at.slice_bounds-writ
 pub write_line-requires : goal.write_line-requires
 unfolding text_length
 write_line-requires c =
-    let e = c in
-    (simp (length-take, length-drop) (omega (arith, inside ((goal.at.write_line-requires c).Else-known-ne0))), quote_whole _ _ e.requires.2)
+    (simp (length-take, length-drop) (omega (arith, inside ((goal.at.write_line-requires c).Else-known-ne0))), quote_whole _ _ c.requires.2)
 
 pub returns : goal.returns
 unfolding text_length
 returns c =
-    let n = c in
-    let e = n in
-    let pre = e.requires in
-    line_filed _ _ _ pre.0 pre.1 e.if-known-ne0.false e.if-register-used-lt-LINE_LENGTH.false _ _ _ n.number_given-number.ensures n.if-number-ge4294967296.false
+    let pre = c.requires in
+    line_filed _ _ _ pre.0 pre.1 c.if-known-ne0.false c.if-register-used-lt-LINE_LENGTH.false _ _ _ c.number_given-number.ensures c.if-number-ge4294967296.false
     pre.2 c.write_line.ensures

@@ -10,9 +10,8 @@ returns-then-quote-ne0 c =
 
 pub enter-requires : goal.enter-requires
 enter-requires c =
-    let e = c in
-    let quoted = e.quote-quote.ensures in
-    (c.requires, sym (quote_says _ _ quoted) ∙ e.if-quote-ne0.false, quoted)
+    let quoted = c.quote-quote.ensures in
+    (c.requires, sym (quote_says _ _ quoted) ∙ c.if-quote-ne0.false, quoted)
 
 pub returns : goal.returns
 returns c = c.enter.ensures

@@ -11,16 +11,14 @@ loop-i-init c = (omega arith, refl)
 pub returns-then-register-at : goal.returns-then-register-at
 returns-then-register-at c =
     let l = c.loop-i in
-    let start = c in
     sym
-    (figure_other _ start.args.at _ _ l.i c.loop-i-test.true l.invariant.1
-    (start.requires.1 (l.i - 1) (omega arith)) (start.requires.2 (l.i - 1) (omega arith)) c.if-register-at.true)
+    (figure_other _ c.args.at _ _ l.i c.loop-i-test.true l.invariant.1
+    (c.requires.1 (l.i - 1) (omega arith)) (c.requires.2 (l.i - 1) (omega arith)) c.if-register-at.true)
 
 pub loop-i-preserved : goal.loop-i-preserved
 loop-i-preserved c =
     let l = c.loop-i in
-    let start = c in
-    (omega arith, figure_same _ start.args.at _ _ l.i c.loop-i-test.true l.invariant.1 c.if-register-at.false)
+    (omega arith, figure_same _ c.args.at _ _ l.i c.loop-i-test.true l.invariant.1 c.if-register-at.false)
 
 pub returns : goal.returns
 returns c = sym (figure_all _ c.args.at _ _ c.loop-i.i c.loop-i-test.false c.loop-i.invariant.1)

@@ -18,7 +18,6 @@ search_member-search-requires c =
 pub returns : goal.returns
 unfolding text_length
 returns c =
-    let k = c in
     let search = c.search_member-search in
-    member_answered line_layout _ _ k.check-checked.ensures _ _ k.if-checked-ne0.false _ _ search.ensures.0 search.ensures.1
+    member_answered line_layout _ _ c.check-checked.ensures _ _ c.if-checked-ne0.false _ _ search.ensures.0 search.ensures.1
     c.line_at-located.ensures

@@ -16,6 +16,5 @@ place_of_number-place-requires c =
 pub returns : goal.returns
 unfolding text_length
 returns c =
-    let k = c in
     c.line_at.ensures
-    ∙ sym (answered line_layout _ _ k.check-checked.ensures k.if-checked-ne0.false _ _ c.place_of_number-place.ensures)
+    ∙ sym (answered line_layout _ _ c.check-checked.ensures c.if-checked-ne0.false _ _ c.place_of_number-place.ensures)

@@ -10,15 +10,13 @@ use Rattle.register.proofs.finding.place_of_number.Goals as goal
 
 pub returns-then-number-first : goal.returns-then-number-first
 returns-then-number-first c =
-    let start = c in
-    let s = start.args.register.now in
-    number_before line_layout number_inside _ start.requires _ _
+    let s = c.args.register.now in
+    number_before line_layout number_inside _ c.requires _ _
     (λ h. first_line_number line_layout number_inside s _ h ∙ sym c.number_at-first.ensures) c.if-number-first.true _
-    (omega (arith, cut_count line_layout start.args.n s))
+    (omega (arith, cut_count line_layout c.args.n s))
 
 pub returns : goal.returns
 returns c =
-    let start = c in
-    let s = start.args.register.now in
-    number_behind line_layout number_inside _ start.requires _ _
+    let s = c.args.register.now in
+    number_behind line_layout number_inside _ c.requires _ _
     (λ h. first_line_number line_layout number_inside s _ h ∙ sym c.number_at-first.ensures) c.if-number-first.false

@@ -28,21 +28,19 @@ overflow_add-i c = omega arith
 pub has_figure-requires : goal.has_figure-requires
 unfolding text_length
 has_figure-requires c =
-    let l = c.loop-i in
-    let start = c in (
+    let l = c.loop-i in (
       omega arith,
-      line_digits line_layout number_inside _ _ (l.i - 1) (omega arith) start.requires.1 (omega arith),
+      line_digits line_layout number_inside _ _ (l.i - 1) (omega arith) c.requires.1 (omega arith),
       member_digits _ _ l.invariant.0,
     )
 
 pub returns-then-has_figure : goal.returns-then-has_figure
 unfolding text_length
 returns-then-has_figure c =
-    let k = c in
-    let l = k.loop-i in
-    let args = k.args in
+    let l = c.loop-i in
+    let args = c.args in
     let last =
-    same_hit line_layout _ _ _ l.i l.invariant.1 k.loop-i-test.true
+    same_hit line_layout _ _ _ l.i l.invariant.1 c.loop-i-test.true
     (member_told _ _ l.invariant.0 line_layout _ _ _ (omega arith) (omega arith) c.has_figure.ensures ∙ c.if-has_figure.true)
     in (
       last,

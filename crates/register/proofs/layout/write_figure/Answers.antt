@@ -8,20 +8,13 @@ use Rattle.register.proofs.layout.write_figure.Goals as goal
 
 pub write_values-requires : goal.write_values-requires
 write_values-requires c =
-    let written = c in
-    let few : length written.write_bytes.new.bytes ≡ 4 = ap length written.write_bytes.ensures ∙ simp length-sets in
-    omega (arith, few, written.requires)
+    let few : length c.write_bytes.new.bytes ≡ 4 = ap length c.write_bytes.ensures ∙ simp length-sets in
+    omega (arith, few, c.requires)
 
 pub shape_of-digits : goal.shape_of-digits
 shape_of-digits c =
-    let spelt = c in
-    let made = spelt in
-    ap length spelt.spell.ensures ∙ simp length-map (ap length made.write_values.ensures ∙ simp length-sets)
+    ap length c.spell.ensures ∙ simp length-map (ap length c.write_values.ensures ∙ simp length-sets)
 
 pub returns : goal.returns
 returns c =
-    let spelt = c in
-    let made = spelt in
-    let written = made in
-    let start = written in
-    figure_written _ _ _ _ _ _ refl start.requires written.write_bytes.ensures made.write_values.ensures spelt.spell.ensures
+    figure_written _ _ _ _ _ _ refl c.requires c.write_bytes.ensures c.write_values.ensures c.spell.ensures

@@ -7,8 +7,5 @@ use Rattle.register.proofs.layout.write_header.Goals as goal
 pub returns : goal.returns
 unfolding figures_of
 returns c =
-    let third = c in
-    let second = third in
-    let first = second in
-    three_written _ _ _ _ _ _ _ _ _ _ refl refl first.write_bytes.ensures second.write_bytes-2.ensures
-    third.write_bytes-3.ensures
+    three_written _ _ _ _ _ _ _ _ _ _ refl refl c.write_bytes.ensures c.write_bytes-2.ensures
+    c.write_bytes-3.ensures

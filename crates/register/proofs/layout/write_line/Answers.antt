@@ -53,16 +53,12 @@ bounds-line-120 c = omega (arith, spelled-length ((goal.at.bounds-line-120 c).Af
 pub shape_of-line : goal.shape_of-line
 unfolding text_length
 shape_of-line c =
-    let start = c in
-    simp length-set (spelled-length ((goal.at.shape_of-line c).After-spell) ∙ sym start.requires.0)
+    simp length-set (spelled-length ((goal.at.shape_of-line c).After-spell) ∙ sym c.requires.0)
 
 pub returns : goal.returns
 unfolding text_length figures_of
 returns c =
-    let values = c in
-    let l = values.loop-i in
-    let header = values in
-    let start = header in
-    line_written (figures_of start.args.number start.args.quote) _ _ _ _ _ _ start.requires.1 refl start.requires.0
-    header.write_header.ensures (shares_end _ _ _ l.i (omega arith) l.invariant.2) values.write_values.ensures
+    let l = c.loop-i in
+    line_written (figures_of c.args.number c.args.quote) _ _ _ _ _ _ c.requires.1 refl c.requires.0
+    c.write_header.ensures (shares_end _ _ _ l.i (omega arith) l.invariant.2) c.write_values.ensures
     c.spell.ensures

@@ -6,8 +6,5 @@ use Rattle.register.proofs.layout.write_share.Goals as goal
 
 pub returns : goal.returns
 returns c =
-    let third = c in
-    let second = third in
-    let first = second in
-    three_written _ _ _ _ _ _ _ _ _ _ refl (omega arith) first.write_bytes.ensures second.write_bytes-2.ensures
-    third.write_bytes-3.ensures
+    three_written _ _ _ _ _ _ _ _ _ _ refl (omega arith) c.write_bytes.ensures c.write_bytes-2.ensures
+    c.write_bytes-3.ensures

@@ -10,13 +10,11 @@ number-used-requires c = omega (arith, c.requires.0 c.if-at-characters.true, c.r
 pub returns-then-at-characters : goal.returns-then-at-characters
 unfolding allowance_used_at
 returns-then-at-characters c =
-    let start = c in
     λ s bytes within.
-    rw (lt-ltb start.args.at.at start.args.characters c.if-at-characters.true)
-    (c.number-used.ensures.value s bytes (omega (arith, c.number-used.ensures.next, start.requires.0 c.if-at-characters.true)))
+    rw (lt-ltb c.args.at.at c.args.characters c.if-at-characters.true)
+    (c.number-used.ensures.value s bytes (omega (arith, c.number-used.ensures.next, c.requires.0 c.if-at-characters.true)))
 
 pub returns : goal.returns
 unfolding allowance_used_at
 returns c =
-    let start = c in
-    λ s bytes within. rw (le-ltb start.args.at.at start.args.characters c.if-at-characters.false)
+    λ s bytes within. rw (le-ltb c.args.at.at c.args.characters c.if-at-characters.false)

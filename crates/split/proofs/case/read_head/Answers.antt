@@ -6,9 +6,5 @@ use Rattle.split.proofs.case.read_head.Goals as goal
 pub returns : goal.returns
 unfolding head_at
 returns c =
-    let count = c in
-    let commencement = count in
-    let birth = commencement in
-    let member = birth in
-    made_of (λ m b d n. record { member = m; birth = b; commencement = d; count = n }) member.number-member.ensures
-    then birth.date-birth.ensures then commencement.date-commencement.ensures then count.byte-count.ensures
+    made_of (λ m b d n. record { member = m; birth = b; commencement = d; count = n }) c.number-member.ensures
+    then c.date-birth.ensures then c.date-commencement.ensures then c.byte-count.ensures

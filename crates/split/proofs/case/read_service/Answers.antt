@@ -6,6 +6,4 @@ use Rattle.split.proofs.case.read_service.Goals as goal
 pub returns : goal.returns
 unfolding service_at
 returns c =
-    let end = c in
-    let start = end in
-    made_of (λ s e. record { start = s; end = e }) start.date-start.ensures then end.date-end.ensures
+    made_of (λ s e. record { start = s; end = e }) c.date-start.ensures then c.date-end.ensures

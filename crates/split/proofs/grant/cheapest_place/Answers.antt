@@ -66,57 +66,49 @@ told : (c : After-goes_first) (caps lumps : List ℕ) (x : length caps ≡ 4) (y
     ≡ goes_first (at ((goal.at.After-goes_first c).In-loop-i) caps lumps x y (c.loop-i.i - 1))
     (at ((goal.at.After-goes_first c).In-loop-i) caps lumps x y c.loop-i.best)
 told c caps lumps x y =
-    let second = c in
-    let first = second in
-    c.goes_first.ensures (at ((goal.at.After-goes_first c).In-loop-i) caps lumps x y (first.loop-i.i - 1)) (at ((goal.at.After-goes_first c).In-loop-i) caps lumps x y first.loop-i.best)
+    c.goes_first.ensures (at ((goal.at.After-goes_first c).In-loop-i) caps lumps x y (c.loop-i.i - 1)) (at ((goal.at.After-goes_first c).In-loop-i) caps lumps x y c.loop-i.best)
     (price ((goal.at.After-goes_first c).In-loop-i) caps lumps x y _ (place ((goal.at.After-goes_first c).In-loop-i))) (price ((goal.at.After-goes_first c).In-loop-i) caps lumps x y _ (other ((goal.at.After-goes_first c).Else-best-n)))
 
 pub loop-i-preserved-then-best-n : goal.loop-i-preserved-then-best-n
-loop-i-preserved-then-best-n c =
-    let first = c in (
-      within ((goal.at.loop-i-preserved-then-best-n c).In-loop-i),
-      within ((goal.at.loop-i-preserved-then-best-n c).In-loop-i),
-      λ caps lumps x y.
-          (next ((goal.at.loop-i-preserved-then-best-n c).In-loop-i) caps lumps x y).here (waits ((goal.at.loop-i-preserved-then-best-n c).In-loop-i) caps lumps x y _ (place ((goal.at.loop-i-preserved-then-best-n c).In-loop-i)) ∙ c.if-waiting-i.true)
-          (λ h. absurd (ne_of_lt h c.if-best-n.true)),
-    )
+loop-i-preserved-then-best-n c = (
+  within ((goal.at.loop-i-preserved-then-best-n c).In-loop-i),
+  within ((goal.at.loop-i-preserved-then-best-n c).In-loop-i),
+  λ caps lumps x y.
+      (next ((goal.at.loop-i-preserved-then-best-n c).In-loop-i) caps lumps x y).here (waits ((goal.at.loop-i-preserved-then-best-n c).In-loop-i) caps lumps x y _ (place ((goal.at.loop-i-preserved-then-best-n c).In-loop-i)) ∙ c.if-waiting-i.true)
+      (λ h. absurd (ne_of_lt h c.if-best-n.true)),
+)
 
 pub loop-i-preserved-then-goes_first : goal.loop-i-preserved-then-goes_first
-loop-i-preserved-then-goes_first c =
-    let second = c in
-    let first = second in (
-      within ((goal.at.loop-i-preserved-then-goes_first c).In-loop-i),
-      within ((goal.at.loop-i-preserved-then-goes_first c).In-loop-i),
-      λ caps lumps x y.
-          (next ((goal.at.loop-i-preserved-then-goes_first c).In-loop-i) caps lumps x y).here (waits ((goal.at.loop-i-preserved-then-goes_first c).In-loop-i) caps lumps x y _ (place ((goal.at.loop-i-preserved-then-goes_first c).In-loop-i)) ∙ second.if-waiting-i.true)
-          (λ h. sym (told ((goal.at.loop-i-preserved-then-goes_first c).After-goes_first) caps lumps x y)
-          ∙ c.if-goes_first.true),
-    )
+loop-i-preserved-then-goes_first c = (
+  within ((goal.at.loop-i-preserved-then-goes_first c).In-loop-i),
+  within ((goal.at.loop-i-preserved-then-goes_first c).In-loop-i),
+  λ caps lumps x y.
+      (next ((goal.at.loop-i-preserved-then-goes_first c).In-loop-i) caps lumps x y).here (waits ((goal.at.loop-i-preserved-then-goes_first c).In-loop-i) caps lumps x y _ (place ((goal.at.loop-i-preserved-then-goes_first c).In-loop-i)) ∙ c.if-waiting-i.true)
+      (λ h. sym (told ((goal.at.loop-i-preserved-then-goes_first c).After-goes_first) caps lumps x y)
+      ∙ c.if-goes_first.true),
+)
 
 pub loop-i-preserved-else-goes_first : goal.loop-i-preserved-else-goes_first
-loop-i-preserved-else-goes_first c =
-    let second = c in
-    let first = second in (
-      within ((goal.at.loop-i-preserved-else-goes_first c).In-loop-i),
-      first.loop-i.invariant.1,
-      λ caps lumps x y.
-          (next ((goal.at.loop-i-preserved-else-goes_first c).In-loop-i) caps lumps x y).behind
-          (λ w. (
-            found ((goal.at.loop-i-preserved-else-goes_first c).Else-best-n),
-            sym (told ((goal.at.loop-i-preserved-else-goes_first c).After-goes_first) caps lumps x y)
-                ∙ c.if-goes_first.false,
-          )),
-    )
+loop-i-preserved-else-goes_first c = (
+  within ((goal.at.loop-i-preserved-else-goes_first c).In-loop-i),
+  c.loop-i.invariant.1,
+  λ caps lumps x y.
+      (next ((goal.at.loop-i-preserved-else-goes_first c).In-loop-i) caps lumps x y).behind
+      (λ w. (
+        found ((goal.at.loop-i-preserved-else-goes_first c).Else-best-n),
+        sym (told ((goal.at.loop-i-preserved-else-goes_first c).After-goes_first) caps lumps x y)
+            ∙ c.if-goes_first.false,
+      )),
+)
 
 pub loop-i-preserved : goal.loop-i-preserved
-loop-i-preserved c =
-    let first = c in (
-      within ((goal.at.loop-i-preserved c).In-loop-i),
-      first.loop-i.invariant.1,
-      λ caps lumps x y.
-          (next ((goal.at.loop-i-preserved c).In-loop-i) caps lumps x y).behind
-          (λ w. absurd (false≢true (sym (waits ((goal.at.loop-i-preserved c).In-loop-i) caps lumps x y _ (place ((goal.at.loop-i-preserved c).In-loop-i)) ∙ c.if-waiting-i.false) ∙ w))),
-    )
+loop-i-preserved c = (
+  within ((goal.at.loop-i-preserved c).In-loop-i),
+  c.loop-i.invariant.1,
+  λ caps lumps x y.
+      (next ((goal.at.loop-i-preserved c).In-loop-i) caps lumps x y).behind
+      (λ w. absurd (false≢true (sym (waits ((goal.at.loop-i-preserved c).In-loop-i) caps lumps x y _ (place ((goal.at.loop-i-preserved c).In-loop-i)) ∙ c.if-waiting-i.false) ∙ w))),
+)
 
 pub returns : goal.returns
 returns c =

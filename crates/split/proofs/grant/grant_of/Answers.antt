@@ -29,21 +29,18 @@ pension c = up_to c.args.pensions.now c.requires.1 (place c)
 -- a sum with the next pension is within that of all
 pub overflow_add-sum : goal.overflow_add-sum
 overflow_add-sum c =
-    let test = c in
-    let l = test.loop-i in
-    let start = test in
+    let l = c.loop-i in
     Fits-below tt
     (le_trans
-    (sum_within (λ (x : ℕ). x) start.args.pensions.now 0 l.i start.args.n l.sum (pension ((goal.at.overflow_add-sum c).In-loop-i))
-    test.loop-i-test.true l.invariant.1)
-    start.requires.2)
+    (sum_within (λ (x : ℕ). x) c.args.pensions.now 0 l.i c.args.n l.sum (pension ((goal.at.overflow_add-sum c).In-loop-i))
+    c.loop-i-test.true l.invariant.1)
+    c.requires.2)
 
 pub loop-i-preserved : goal.loop-i-preserved
 loop-i-preserved c =
-    let test = c in
-    let l = test.loop-i in (
-      add-one-le test.loop-i-test.true,
-      sum_next (λ (x : ℕ). x) test.args.pensions.now 0 l.i l.sum (pension ((goal.at.loop-i-preserved c).In-loop-i)) l.invariant.1,
+    let l = c.loop-i in (
+      add-one-le c.loop-i-test.true,
+      sum_next (λ (x : ℕ). x) c.args.pensions.now 0 l.i l.sum (pension ((goal.at.loop-i-preserved c).In-loop-i)) l.invariant.1,
     )
 
 -- after the last it is that of all
@@ -63,8 +60,7 @@ take_turns-requires c =
 
 pub returns : goal.returns
 returns c =
-    let after = c in
-    let a = after.args in
+    let a = c.args in
     let given = c.take_turns.ensures in (
       given.0
           ∙ ap (λ (t : ℕ). lumps_of (turns a.n (take a.n (rows_in a.prices.now a.caps.now (replicate 4 0) (replicate 4 true))) (20000000000 * t) a.allowance))

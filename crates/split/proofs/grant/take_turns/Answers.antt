@@ -59,32 +59,27 @@ granted c idle =
 -- no row waits
 pub returns-then-n-place : goal.returns-then-n-place
 returns-then-n-place c =
-    let l = c in
-    let found = c.cheapest_place-place.ensures l.args.caps.now l.loop-done.lumps l.requires.2 l.loop-done.invariant.1.lumps in
-    (granted ((goal.at.returns-then-n-place c).At-loop-done) (turns_idle l.args.n _ _ _ _ (omega (arith, found, c.if-n-place.true))), l.loop-done.invariant.1.lumps, l.loop-done.invariant.4)
+    let found = c.cheapest_place-place.ensures c.args.caps.now c.loop-done.lumps c.requires.2 c.loop-done.invariant.1.lumps in
+    (granted ((goal.at.returns-then-n-place c).At-loop-done) (turns_idle c.args.n _ _ _ _ (omega (arith, found, c.if-n-place.true))), c.loop-done.invariant.1.lumps, c.loop-done.invariant.4)
 
 pub loop-done-preserved : goal.loop-done-preserved
 loop-done-preserved c =
-    let allowing = c in
-    let e = allowing in
-    let test = e in
-    let l = test in
-    let n = l.args.n in
-    let sized = l.loop-done.invariant.1 in
-    let found = e.cheapest_place-place.ensures l.args.caps.now l.loop-done.lumps l.requires.2 sized.lumps in (
-      add-one-le test.loop-done-test.true,
+    let n = c.args.n in
+    let sized = c.loop-done.invariant.1 in
+    let found = c.cheapest_place-place.ensures c.args.caps.now c.loop-done.lumps c.requires.2 sized.lumps in (
+      add-one-le c.loop-done-test.true,
       record {
         prices = sized.prices;
         caps = sized.caps;
-        lumps = length-set l.loop-done.lumps _ _ ∙ sized.lumps;
-        waiting = length-set l.loop-done.waiting _ _ ∙ sized.waiting;
+        lumps = length-set c.loop-done.lumps _ _ ∙ sized.lumps;
+        waiting = length-set c.loop-done.waiting _ _ ∙ sized.waiting;
       },
-      l.loop-done.invariant.2
-          ∙ arrays_turn _ _ l.loop-done.lumps l.loop-done.waiting n (n - l.loop-done.done) _ _ l.loop-done.left _ l.loop-done.allowance_left _ sized
-          (one_fewer l.loop-done.done n test.loop-done-test.true) e.if-n-place.false l.requires.0 found (given ((goal.at.loop-done-preserved c).After-allowed_lump-lump))
+      c.loop-done.invariant.2
+          ∙ arrays_turn _ _ c.loop-done.lumps c.loop-done.waiting n (n - c.loop-done.done) _ _ c.loop-done.left _ c.loop-done.allowance_left _ sized
+          (one_fewer c.loop-done.done n c.loop-done-test.true) c.if-n-place.false c.requires.0 found (given ((goal.at.loop-done-preserved c).After-allowed_lump-lump))
           c.after_lump-allowance_left.ensures,
-      le_trans (sub-le _ _) l.loop-done.invariant.3,
-      λ j h g. get_or-set_other l.loop-done.lumps _ j _ 0 (λ same. omega (arith, e.if-n-place.false)) ∙ l.loop-done.invariant.4 j h g,
+      le_trans (sub-le _ _) c.loop-done.invariant.3,
+      λ j h g. get_or-set_other c.loop-done.lumps _ j _ 0 (λ same. omega (arith, c.if-n-place.false)) ∙ c.loop-done.invariant.4 j h g,
     )
 
 -- no turn is left

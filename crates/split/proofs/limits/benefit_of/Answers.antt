@@ -19,17 +19,15 @@ worked_pension-pension-requires c = rw (basis_paid _ _ c.requires.basis) (paid_a
 factor : (c : After-effective_factor-factor) (h : Head) → c.args.basis ≡ basis_of h
     → c.effective_factor-factor.result ≡ multiple_factor h c.args.p
 factor c h e =
-    let start = c in
-    factor_worked h start.args.p _ _
+    factor_worked h c.args.p _ _
     (c.worked_terms-terms.ensures _ (basis_found _ _ e)) c.effective_factor-factor.ensures
 
 pub cap_of-cap-requires : goal.cap_of-cap-requires
 cap_of-cap-requires c =
-    let start = c in
-    let h = start.requires.head in (
-      rw (c.worked_pension-pension.ensures h (basis_paid _ _ start.requires.basis))
-          (omega (arith, worked_at_most h start.args.p, start.requires.stated)),
-      rw (factor ((goal.at.cap_of-cap-requires c).After-effective_factor-factor) h start.requires.basis) (worked_range h start.args.p (factor_range h start.args.p (accepted ((goal.at.cap_of-cap-requires c).Start)))),
+    let h = c.requires.head in (
+      rw (c.worked_pension-pension.ensures h (basis_paid _ _ c.requires.basis))
+          (omega (arith, worked_at_most h c.args.p, c.requires.stated)),
+      rw (factor ((goal.at.cap_of-cap-requires c).After-effective_factor-factor) h c.requires.basis) (worked_range h c.args.p (factor_range h c.args.p (accepted ((goal.at.cap_of-cap-requires c).Start)))),
     )
 
 pub returns : goal.returns

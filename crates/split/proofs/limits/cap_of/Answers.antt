@@ -16,12 +16,10 @@ chosen c =
 
 pub returns-then-most-quarter : goal.returns-then-most-quarter
 returns-then-most-quarter c =
-    let j = c in
-    let a = j.args in
-    omega (arith, c.if-most-quarter.true, cap_chosen a.limited a.pension.0 _ _ a.e j.quarter_lump-quarter.ensures.0 (chosen ((goal.at.returns-then-most-quarter c).Joined-limited)))
+    let a = c.args in
+    omega (arith, c.if-most-quarter.true, cap_chosen a.limited a.pension.0 _ _ a.e c.quarter_lump-quarter.ensures.0 (chosen ((goal.at.returns-then-most-quarter c).Joined-limited)))
 
 pub returns-else-most-quarter : goal.returns-else-most-quarter
 returns-else-most-quarter c =
-    let j = c in
-    let a = j.args in
-    omega (arith, c.if-most-quarter.false, cap_chosen a.limited a.pension.0 _ _ a.e j.quarter_lump-quarter.ensures.0 (chosen ((goal.at.returns-else-most-quarter c).Joined-limited)))
+    let a = c.args in
+    omega (arith, c.if-most-quarter.false, cap_chosen a.limited a.pension.0 _ _ a.e c.quarter_lump-quarter.ensures.0 (chosen ((goal.at.returns-else-most-quarter c).Joined-limited)))

@@ -8,17 +8,14 @@ use Rattle.split.proofs.limits.quarter_lump.Goals as goal
 
 pub overflow_mul-result : goal.overflow_mul-result
 overflow_mul-result c =
-    let start = c in
-    omega (arith, mul-le-mul start.requires.0 start.requires.1.top_high)
+    omega (arith, mul-le-mul c.requires.0 c.requires.1.top_high)
 
 pub overflow_cast-result-2 : goal.overflow_cast-result-2
 unfolding quarter_lump
 overflow_cast-result-2 c =
-    let start = c in
-    omega (arith, quarter_at_most start.args.pension.0 start.args.e start.requires.1)
+    omega (arith, quarter_at_most c.args.pension.0 c.args.e c.requires.1)
 
 pub returns : goal.returns
 unfolding quarter_lump
 returns c =
-    let start = c in
-    (refl, omega (arith, quarter_at_most start.args.pension.0 start.args.e start.requires.1))
+    (refl, omega (arith, quarter_at_most c.args.pension.0 c.args.e c.requires.1))

@@ -30,10 +30,8 @@ range c h e =
 pub price_of-requires : goal.price_of-requires
 unfolding multiple_benefit
 price_of-requires c =
-    let made = c in
-    let start = made in
     let a = accepted ((goal.at.price_of-requires c).Else-not-accepted) in
-    rw (made.benefit_of-benefit.ensures a.head a.basis) (worked_range a.head start.args.p (range ((goal.at.price_of-requires c).Else-not-accepted) a.head a.basis))
+    rw (c.benefit_of-benefit.ensures a.head a.basis) (worked_range a.head c.args.p (range ((goal.at.price_of-requires c).Else-not-accepted) a.head a.basis))
 
 -- the place is one of the four
 place : (c : Else-not-accepted) → c.args.at < 4
@@ -41,14 +39,11 @@ place c = c.requires.1
 
 pub returns : goal.returns
 returns c h e =
-    let priced = c in
-    let made = priced in
-    let start = made in
-    let a = start.args in
-    let yes : a.accepted ≡ true = start.if-not-accepted.false in
+    let a = c.args in
+    let yes : a.accepted ≡ true = c.if-not-accepted.false in
     let was = columns a.pensions.now a.tops.now a.bottoms.now a.caps.now a.prices.now a.increases.now in
-    figures_stored h a.p a.at was made.benefit_of-benefit.result _ _ (range ((goal.at.returns c).Else-not-accepted) h e) (made.benefit_of-benefit.ensures h e)
-    priced.price_of.ensures c.increase_of.ensures
+    figures_stored h a.p a.at was c.benefit_of-benefit.result _ _ (range ((goal.at.returns c).Else-not-accepted) h e) (c.benefit_of-benefit.ensures h e)
+    c.price_of.ensures c.increase_of.ensures
     ∙ sym (ap (λ (b : Bool). cond b (stored h a.p a.at was) was) yes)
 
 pub benefit_of-benefit-requires : goal.benefit_of-benefit-requires

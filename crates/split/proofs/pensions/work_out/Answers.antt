@@ -20,8 +20,7 @@ head_refusal-refused-requires c = basis_age _ _ c.basis_of-basis.ensures
 
 pub loop-i-init : goal.loop-i-init
 loop-i-init c =
-    let start = c in
-    (zero-le, start.requires.0, zero-le, gone_none _ _ _ _ _ c.head_refusal-refused.ensures start.requires.2)
+    (zero-le, c.requires.0, zero-le, gone_none _ _ _ _ _ c.head_refusal-refused.ensures c.requires.2)
 
 pub pension_refusal-requires : goal.pension_refusal-requires
 pension_refusal-requires c = basis_age _ _ c.basis_of-basis.ensures
@@ -39,14 +38,12 @@ judged c =
     ∙ ap (λ (r : ℕ). lower c.loop-i.refused r) c.pension_refusal.ensures
 
 pub store_figures-requires : goal.store_figures-requires
-store_figures-requires c =
-    let chosen = c in
-    let test = chosen in (
-      none_refused _ _ _ test.loop-i.refused _ test.loop-i.stated _ test.basis_of-basis.ensures
-          (judged ((goal.at.store_figures-requires c).After-lower_of-refused)) refl,
-      place ((goal.at.store_figures-requires c).In-loop-i),
-      test.loop-i.invariant.3.four,
-    )
+store_figures-requires c = (
+  none_refused _ _ _ c.loop-i.refused _ c.loop-i.stated _ c.basis_of-basis.ensures
+      (judged ((goal.at.store_figures-requires c).After-lower_of-refused)) refl,
+  place ((goal.at.store_figures-requires c).In-loop-i),
+  c.loop-i.invariant.3.four,
+)
 
 -- the total is at most a full number for each pension
 grown : (c : After-struct_known-1) → let read = c in
@@ -56,22 +53,17 @@ grown c = omega arith
 
 pub loop-i-preserved : goal.loop-i-preserved
 loop-i-preserved c =
-    let stored = c in
-    let chosen = stored in
-    let read = chosen in
-    let test = read in
-    let l = test.loop-i in (
-      add-one-le test.loop-i-test.true,
-      omega (arith, read.read_pension-read.ensures.next, l.invariant.1),
+    let l = c.loop-i in (
+      add-one-le c.loop-i-test.true,
+      omega (arith, c.read_pension-read.ensures.next, l.invariant.1),
       grown ((goal.at.loop-i-preserved c).After-struct_known-1),
-      one_worked l.invariant.3 read.read_pension-read.result.value _ _ _ l.invariant.1 read.read_pension-read.ensures (judged ((goal.at.loop-i-preserved c).After-lower_of-refused))
-          refl _ _ refl (place ((goal.at.loop-i-preserved c).In-loop-i)) (stored.store_figures.ensures _ test.basis_of-basis.ensures),
+      one_worked l.invariant.3 c.read_pension-read.result.value _ _ _ l.invariant.1 c.read_pension-read.ensures (judged ((goal.at.loop-i-preserved c).After-lower_of-refused))
+          refl _ _ refl (place ((goal.at.loop-i-preserved c).In-loop-i)) (c.store_figures.ensures _ c.basis_of-basis.ensures),
     )
 
 -- after the loop all n were gone through
 gone : (c : After-loop-i) → let l = c.loop-i in
-    let start = c in
-    Gone start.args.head start.args.bytes.now start.args.n (case_length start.args.n) l.refused l.stated
+    Gone c.args.head c.args.bytes.now c.args.n (case_length c.args.n) l.refused l.stated
     (columns l.pensions l.tops l.bottoms l.caps l.prices l.increases)
 gone c =
     let l = c.loop-i in
@@ -83,7 +75,6 @@ behind c = let l = c.loop-i in omega (arith, l.invariant.0, c.loop-i-test.false,
 
 pub returns-then-stated-gt50000000 : goal.returns-then-stated-gt50000000
 returns-then-stated-gt50000000 c =
-    let after = c in
     (gone_above (gone ((goal.at.returns-then-stated-gt50000000 c).After-loop-i)) _ c.if-stated-gt50000000.true c.lower_of-refused-then-stated-gt50000000.ensures, behind ((goal.at.returns-then-stated-gt50000000 c).After-loop-i))
 
 pub returns-else-stated-gt50000000 : goal.returns-else-stated-gt50000000

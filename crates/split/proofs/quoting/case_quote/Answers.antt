@@ -22,18 +22,15 @@ listed : (c : Start) → RightLength c.args.characters c.args.n
 listed c = length_listed _ _ c.requires.1
 
 pub work_out-worked-requires : goal.work_out-worked-requires
-work_out-worked-requires c =
-    let start = c in (
-      start.requires.0,
-      (listed ((goal.at.work_out-worked-requires c).Start)).counted.1,
-      record { pensions = refl; tops = refl; bottoms = refl; caps = refl; prices = refl; increases = refl },
-    )
+work_out-worked-requires c = (
+  c.requires.0,
+  (listed ((goal.at.work_out-worked-requires c).Start)).counted.1,
+  record { pensions = refl; tops = refl; bottoms = refl; caps = refl; prices = refl; increases = refl },
+)
 
 pub returns-then-worked-ne0 : goal.returns-then-worked-ne0
 returns-then-worked-ne0 c =
-    let worked = c in
-    let start = worked in
-    case_refused worked.work_out-worked.ensures.0 _ (listed ((goal.at.returns-then-worked-ne0 c).Start)).long _ c.if-worked-ne0.true c.refused_quote.ensures
+    case_refused c.work_out-worked.ensures.0 _ (listed ((goal.at.returns-then-worked-ne0 c).Start)).long _ c.if-worked-ne0.true c.refused_quote.ensures
 
 -- past the test the case is accepted
 accepted : (c : Else-worked-ne0) → let worked = c in
@@ -42,9 +39,8 @@ accepted c = case_accepted _ _ (sym c.work_out-worked.ensures.0.judged ∙ c.if-
 
 pub read_allowance_used-used-requires : goal.read_allowance_used-used-requires
 read_allowance_used-used-requires c =
-    let worked = c in
     let l = listed ((goal.at.read_allowance_used-used-requires c).Start) in
-    (λ more. omega (arith, worked.work_out-worked.ensures.1, l.field (omega (arith, worked.work_out-worked.ensures.1))), omega (arith, l.short, l.counted))
+    (λ more. omega (arith, c.work_out-worked.ensures.1, l.field (omega (arith, c.work_out-worked.ensures.1))), omega (arith, l.short, l.counted))
 
 -- what was read behind the pensions
 used : (c : After-read_allowance_used-used) → let start = c in
@@ -57,11 +53,9 @@ used c s bytes within =
 
 pub grant_of-requires : goal.grant_of-requires
 grant_of-requires c =
-    let e = c in
-    let worked = e in
     let few = (listed ((goal.at.grant_of-requires c).Start)).counted.1 in
-    let w = worked.work_out-worked.ensures.0 in
-    let held = w.figures e.if-worked-ne0.false in (
+    let w = c.work_out-worked.ensures.0 in
+    let held = w.figures c.if-worked-ne0.false in (
       few,
       w.four.pensions,
       pensions_small _ w.pensions _ _ held w.four w.counted few (accepted ((goal.at.grant_of-requires c).Else-worked-ne0)),
@@ -79,40 +73,23 @@ granted : (c : After-grant_of) → let read = c in
     ≡ grant (allowance_of start.args.head.commencement read.read_allowance_used-used.result.0)
     (benefits_of start.args.head worked.work_out-worked.ensures.0.pensions)
 granted c =
-    let allowance = c in
-    let e = allowance in
-    let worked = e in
-    let start = worked in
-    let w = worked.work_out-worked.ensures.0 in
-    grant_worked _ w.pensions _ _ (w.figures e.if-worked-ne0.false) w.four w.counted (listed ((goal.at.After-grant_of c).Start)).counted.1 _ _ c.grant_of.ensures.0
-    ∙ ap (λ (a : Allowance). grant a (benefits_of start.args.head w.pensions)) allowance.allowance_of-allowance.ensures
+    let w = c.work_out-worked.ensures.0 in
+    grant_worked _ w.pensions _ _ (w.figures c.if-worked-ne0.false) w.four w.counted (listed ((goal.at.After-grant_of c).Start)).counted.1 _ _ c.grant_of.ensures.0
+    ∙ ap (λ (a : Allowance). grant a (benefits_of c.args.head w.pensions)) c.allowance_of-allowance.ensures
 
 pub total_of-total-requires : goal.total_of-total-requires
 total_of-total-requires c =
-    let given = c in
-    let e = given in
-    let start = e in
-    ((listed ((goal.at.total_of-total-requires c).Start)).counted.1, given.grant_of.ensures.1, lumps_small _ _ _ (accepted ((goal.at.total_of-total-requires c).Else-worked-ne0)) _ (granted ((goal.at.total_of-total-requires c).After-grant_of)))
+    ((listed ((goal.at.total_of-total-requires c).Start)).counted.1, c.grant_of.ensures.1, lumps_small _ _ _ (accepted ((goal.at.total_of-total-requires c).Else-worked-ne0)) _ (granted ((goal.at.total_of-total-requires c).After-grant_of)))
 
 pub shares_of-shares-requires : goal.shares_of-shares-requires
 shares_of-shares-requires c =
-    let given = c in
-    let e = given in
-    let worked = e in
-    let start = worked in
-    let w = worked.work_out-worked.ensures.0 in
-    shares_range _ _ w.pensions _ _ _ (accepted ((goal.at.shares_of-shares-requires c).Else-worked-ne0)) (w.figures e.if-worked-ne0.false) w.four w.counted (listed ((goal.at.shares_of-shares-requires c).Start)).counted.1
-    given.grant_of.ensures.1 (granted ((goal.at.shares_of-shares-requires c).After-grant_of)) given.grant_of.ensures.2
+    let w = c.work_out-worked.ensures.0 in
+    shares_range _ _ w.pensions _ _ _ (accepted ((goal.at.shares_of-shares-requires c).Else-worked-ne0)) (w.figures c.if-worked-ne0.false) w.four w.counted (listed ((goal.at.shares_of-shares-requires c).Start)).counted.1
+    c.grant_of.ensures.1 (granted ((goal.at.shares_of-shares-requires c).After-grant_of)) c.grant_of.ensures.2
 
 pub returns : goal.returns
 returns c =
-    let summed = c in
-    let given = summed in
-    let read = given in
-    let e = read in
-    let worked = e in
-    let start = worked in
-    let w = worked.work_out-worked.ensures.0 in
-    case_granted w _ (listed ((goal.at.returns c).Start)).long _ _ e.if-worked-ne0.false (used ((goal.at.returns c).After-read_allowance_used-used))
-    (quote_made _ w.pensions _ _ (w.figures e.if-worked-ne0.false) w.four w.counted (listed ((goal.at.returns c).Start)).counted.1 _ _ _ _
-    given.grant_of.ensures.1 (granted ((goal.at.returns c).After-grant_of)) summed.total_of-total.ensures c.shares_of-shares.ensures)
+    let w = c.work_out-worked.ensures.0 in
+    case_granted w _ (listed ((goal.at.returns c).Start)).long _ _ c.if-worked-ne0.false (used ((goal.at.returns c).After-read_allowance_used-used))
+    (quote_made _ w.pensions _ _ (w.figures c.if-worked-ne0.false) w.four w.counted (listed ((goal.at.returns c).Start)).counted.1 _ _ _ _
+    c.grant_of.ensures.1 (granted ((goal.at.returns c).After-grant_of)) c.total_of-total.ensures c.shares_of-shares.ensures)

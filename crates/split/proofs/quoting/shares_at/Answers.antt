@@ -15,9 +15,8 @@ loop-i-init c = (zero-le, ap (λ (s : Share). replicate 4 s) c.no_share-shares.e
 
 pub loop-i-preserved : goal.loop-i-preserved
 loop-i-preserved c =
-    let test = c in
-    let l = test.loop-i in
-    (add-one-le test.loop-i-test.true, placed_stored _ no_share _ l.shares l.i test.loop-i-test.true l.invariant.1 refl)
+    let l = c.loop-i in
+    (add-one-le c.loop-i-test.true, placed_stored _ no_share _ l.shares l.i c.loop-i-test.true l.invariant.1 refl)
 
 pub returns : goal.returns
 returns c =

@@ -11,11 +11,10 @@ shares_at-requires c =
 pub returns : goal.returns
 returns c =
     let filled = c.take_off.ensures in
-    let start = c in
-    let a = start.args in
+    let a = c.args in
     c.shares_at.ensures
-    ∙ shares_joined a.pensions.now a.tops.now a.bottoms.now a.increases.now a.lumps.now _ _ a.n start.requires.places
-    start.requires.rest filled.0 filled.1
+    ∙ shares_joined a.pensions.now a.tops.now a.bottoms.now a.increases.now a.lumps.now _ _ a.n c.requires.places
+    c.requires.rest filled.0 filled.1
 
 pub take_off-requires : goal.take_off-requires
 take_off-requires c = (c.requires, refl, refl)

@@ -16,22 +16,18 @@ place c = lt_of_lt_of_le c.loop-i-test.true c.requires.0.places
 
 pub remaining_of-left-requires : goal.remaining_of-left-requires
 remaining_of-left-requires c =
-    let test = c in
-    test.requires.0.ranges _ test.loop-i-test.true
+    c.requires.0.ranges _ c.loop-i-test.true
 
 pub second_of-second-requires : goal.second_of-second-requires
 second_of-second-requires c =
-    let test = c in
-    let pre = test.requires.0 in
-    ((pre.ranges _ test.loop-i-test.true).lump_high, pre.small _ test.loop-i-test.true)
+    let pre = c.requires.0 in
+    ((pre.ranges _ c.loop-i-test.true).lump_high, pre.small _ c.loop-i-test.true)
 
 pub loop-i-preserved : goal.loop-i-preserved
 loop-i-preserved c =
-    let made = c in
-    let test = made in
-    let l = test.loop-i in (
-      add-one-le test.loop-i-test.true,
-      filled_more _ l.remaining l.i _ (place ((goal.at.loop-i-preserved c).In-loop-i)) made.remaining_of-left.ensures l.invariant.1,
+    let l = c.loop-i in (
+      add-one-le c.loop-i-test.true,
+      filled_more _ l.remaining l.i _ (place ((goal.at.loop-i-preserved c).In-loop-i)) c.remaining_of-left.ensures l.invariant.1,
       filled_more _ l.seconds l.i _ (place ((goal.at.loop-i-preserved c).In-loop-i)) c.second_of-second.ensures l.invariant.2,
     )
 

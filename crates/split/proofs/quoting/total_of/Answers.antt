@@ -24,21 +24,18 @@ lump c = up_to c.args.lumps.now c.requires.1 (place c)
 
 pub overflow_add-sum : goal.overflow_add-sum
 overflow_add-sum c =
-    let test = c in
-    let loop = test.loop-i in
-    let start = test in
+    let loop = c.loop-i in
     Fits-below tt
     (le_trans
-    (sum_within (λ (x : ℕ). x) start.args.lumps.now 0 loop.i start.args.n loop.sum (lump ((goal.at.overflow_add-sum c).In-loop-i))
-    test.loop-i-test.true loop.invariant.1)
-    start.requires.2)
+    (sum_within (λ (x : ℕ). x) c.args.lumps.now 0 loop.i c.args.n loop.sum (lump ((goal.at.overflow_add-sum c).In-loop-i))
+    c.loop-i-test.true loop.invariant.1)
+    c.requires.2)
 
 pub loop-i-preserved : goal.loop-i-preserved
 loop-i-preserved c =
-    let test = c in
-    let loop = test.loop-i in (
-      add-one-le test.loop-i-test.true,
-      sum_next (λ (x : ℕ). x) test.args.lumps.now 0 loop.i loop.sum (lump ((goal.at.loop-i-preserved c).In-loop-i)) loop.invariant.1,
+    let loop = c.loop-i in (
+      add-one-le c.loop-i-test.true,
+      sum_next (λ (x : ℕ). x) c.args.lumps.now 0 loop.i loop.sum (lump ((goal.at.loop-i-preserved c).In-loop-i)) loop.invariant.1,
     )
 
 pub returns : goal.returns

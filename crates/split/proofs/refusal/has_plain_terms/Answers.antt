@@ -18,13 +18,9 @@ pub returns-then-has_no_factor : goal.returns-then-has_no_factor
 returns-then-has_no_factor c e = absurd (false≢true e)
 
 pub returns : goal.returns
-returns c e =
-    let factored = c in
-    let aged = factored in
-    let listed = aged in
-    let known = listed in (
-      sym known.is_unknown_kind.ensures ∙ listed.if-is_unknown_kind.false,
-      later_none _ _ (sym listed.is_unlisted.ensures ∙ aged.if-is_unlisted.false)
-          (sym aged.is_wrong_age.ensures ∙ factored.if-is_wrong_age.false)
-          (sym factored.has_no_factor.ensures ∙ c.if-has_no_factor.false) (sym c.is_unstated.ensures ∙ not-true _ e),
-    )
+returns c e = (
+  sym c.is_unknown_kind.ensures ∙ c.if-is_unknown_kind.false,
+  later_none _ _ (sym c.is_unlisted.ensures ∙ c.if-is_unlisted.false)
+      (sym c.is_wrong_age.ensures ∙ c.if-is_wrong_age.false)
+      (sym c.has_no_factor.ensures ∙ c.if-has_no_factor.false) (sym c.is_unstated.ensures ∙ not-true _ e),
+)

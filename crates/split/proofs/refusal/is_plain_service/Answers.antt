@@ -12,7 +12,5 @@ returns-then-not-is_common_date-2 c e = absurd (false≢true e)
 
 pub returns : goal.returns
 returns c e =
-    let second = c in
-    let first = second in
-    service_plain _ _ _ (sym first.is_common_date.ensures ∙ second.if-not-is_common_date.false)
-    (sym second.is_common_date-2.ensures ∙ c.if-not-is_common_date-2.false) c.is_disordered.ensures e
+    service_plain _ _ _ (sym c.is_common_date.ensures ∙ c.if-not-is_common_date.false)
+    (sym c.is_common_date-2.ensures ∙ c.if-not-is_common_date-2.false) c.is_disordered.ensures e

@@ -30,10 +30,6 @@ by_kind p false false a b = simp (a, b, leb_zero, or-false)
 
 pub returns : goal.returns
 returns c =
-    let f3 = c in
-    let f2 = f3 in
-    let f1 = f2 in
-    let lift = f1 in
-    let p = lift.args.p in
-    rw (lift.bound.ensures, f1.is_within.ensures, f2.is_listed-f2.ensures, f3.is_listed-f3.ensures, c.is_listed-increase.ensures)
+    let p = c.args.p in
+    rw (c.bound.ensures, c.is_within.ensures, c.is_listed-f2.ensures, c.is_listed-f3.ensures, c.is_listed-increase.ensures)
     (by_kind p (eqb p.kind 1) (eqb p.kind 2) refl refl)

@@ -5,20 +5,16 @@ use Rattle.split.proofs.refusal.lowest_refusal.Goals as goal
 
 pub returns-then-is_undated : goal.returns-then-is_undated
 returns-then-is_undated c =
-    let s = c in
-    sym (pension_lowest s.args.head s.args.p s.args.age s.requires ∙ simp (← c.is_undated.ensures, c.if-is_undated.true))
+    sym (pension_lowest c.args.head c.args.p c.args.age c.requires ∙ simp (← c.is_undated.ensures, c.if-is_undated.true))
 
 pub returns-then-is_disordered : goal.returns-then-is_disordered
 returns-then-is_disordered c =
-    let s = c in
-    sym (pension_lowest s.args.head s.args.p s.args.age s.requires ∙ simp (← c.is_undated.ensures, c.if-is_undated.false, ← c.is_disordered.ensures, c.if-is_disordered.true))
+    sym (pension_lowest c.args.head c.args.p c.args.age c.requires ∙ simp (← c.is_undated.ensures, c.if-is_undated.false, ← c.is_disordered.ensures, c.if-is_disordered.true))
 
 pub returns-then-is_unknown_kind : goal.returns-then-is_unknown_kind
 returns-then-is_unknown_kind c =
-    let s = c in
-    sym (pension_lowest s.args.head s.args.p s.args.age s.requires ∙ simp (← c.is_undated.ensures, c.if-is_undated.false, ← c.is_disordered.ensures, c.if-is_disordered.false, ← c.is_unknown_kind.ensures, c.if-is_unknown_kind.true))
+    sym (pension_lowest c.args.head c.args.p c.args.age c.requires ∙ simp (← c.is_undated.ensures, c.if-is_undated.false, ← c.is_disordered.ensures, c.if-is_disordered.false, ← c.is_unknown_kind.ensures, c.if-is_unknown_kind.true))
 
 pub returns : goal.returns
 returns c =
-    let s = c in
-    sym (pension_lowest s.args.head s.args.p s.args.age s.requires ∙ simp (← c.is_undated.ensures, c.if-is_undated.false, ← c.is_disordered.ensures, c.if-is_disordered.false, ← c.is_unknown_kind.ensures, c.if-is_unknown_kind.false, c.terms_refusal.ensures))
+    sym (pension_lowest c.args.head c.args.p c.args.age c.requires ∙ simp (← c.is_undated.ensures, c.if-is_undated.false, ← c.is_disordered.ensures, c.if-is_disordered.false, ← c.is_unknown_kind.ensures, c.if-is_unknown_kind.false, c.terms_refusal.ensures))

@@ -5,12 +5,9 @@ use Rattle.split.proofs.refusal.pension_refusal.Goals as goal
 
 pub returns-then-has_plain_terms : goal.returns-then-has_plain_terms
 returns-then-has_plain_terms c =
-    let terms = c in
-    let service = terms in
-    let s = service in
-    let dates = service.is_plain_service.ensures terms.if-is_plain_service.true in
-    let later = terms.has_plain_terms.ensures c.if-has_plain_terms.true in
-    sym (pension_lowest s.args.head s.args.p s.args.age s.requires ∙ simp (dates.0, dates.1, later.0, later.1))
+    let dates = c.is_plain_service.ensures c.if-is_plain_service.true in
+    let later = c.has_plain_terms.ensures c.if-has_plain_terms.true in
+    sym (pension_lowest c.args.head c.args.p c.args.age c.requires ∙ simp (dates.0, dates.1, later.0, later.1))
 
 pub lowest_refusal-requires : goal.lowest_refusal-requires
 lowest_refusal-requires c = c.requires

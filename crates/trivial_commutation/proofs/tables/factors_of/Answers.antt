@@ -15,19 +15,16 @@ returns-then-age-gt99 c = ap (λ (r : Row). r.factors) (sym (no_age _ _ (λ low 
 pub returns-then-uses_table_1 : goal.returns-then-uses_table_1
 unfolding table_of small_pension_1987
 returns-then-uses_table_1 c =
-    let t = c in
-    rw (← t.«uses_table_1».ensures, c.if-uses_table_1.true)
-    (ages_1987.placed t.args.age (omega arith) (omega arith))
+    rw (← c.«uses_table_1».ensures, c.if-uses_table_1.true)
+    (ages_1987.placed c.args.age (omega arith) (omega arith))
 
 pub returns-then-uses_table_2 : goal.returns-then-uses_table_2
 unfolding table_of small_pension_2006_and_2015
 returns-then-uses_table_2 c =
-    let t = c in
-    rw (← t.«uses_table_1».ensures, t.if-uses_table_1.false, ← c.«uses_table_2».ensures, c.if-uses_table_2.true)
-    (ages_2006_2015.placed t.args.age (omega arith) (omega arith))
+    rw (← c.«uses_table_1».ensures, c.if-uses_table_1.false, ← c.«uses_table_2».ensures, c.if-uses_table_2.true)
+    (ages_2006_2015.placed c.args.age (omega arith) (omega arith))
 
 pub returns : goal.returns
 unfolding table_of
 returns c =
-    let t = c in
-    rw (← t.«uses_table_1».ensures, t.if-uses_table_1.false, ← c.«uses_table_2».ensures, c.if-uses_table_2.false)
+    rw (← c.«uses_table_1».ensures, c.if-uses_table_1.false, ← c.«uses_table_2».ensures, c.if-uses_table_2.false)

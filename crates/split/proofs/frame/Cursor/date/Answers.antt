@@ -7,7 +7,4 @@ use Rattle.split.proofs.frame.Cursor.date.Goals as goal
 pub returns : goal.returns
 unfolding date_at
 returns c =
-    let day = c in
-    let month = day in
-    let year = month in
-    made_of date year.short-year.ensures then month.byte-month.ensures then day.byte-day.ensures
+    made_of date c.short-year.ensures then c.byte-month.ensures then c.byte-day.ensures

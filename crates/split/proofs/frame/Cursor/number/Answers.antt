@@ -4,5 +4,4 @@ use Rattle.split.proofs.frame.Cursor.number.Goals as goal
 
 pub returns : goal.returns
 returns c =
-    let low = c in
-    number_joined low.short-high.ensures low.short-low.ensures
+    number_joined c.short-high.ensures c.short-low.ensures

@@ -4,5 +4,4 @@ use Rattle.split.proofs.frame.Cursor.short.Goals as goal
 
 pub returns : goal.returns
 returns c =
-    let low = c in
-    number_joined low.byte-high.ensures low.byte-low.ensures
+    number_joined c.byte-high.ensures c.byte-low.ensures
