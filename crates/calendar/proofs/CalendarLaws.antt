@@ -1,8 +1,8 @@
 -- Laws of dates: what the crates above cite instead of the definitions' text, and what the calendar's code does instead of
--- their tests. `earlier` is a strict order, and that of one number made of a date; the bounds of a date of the calendar; a month
--- has the days that it has in every year, or a 29 February, and none after one that is at or past its length; the fault is 0 exactly
--- in the calendar; months to the 60th birthday never pass a bound that the age gives, and it is not past while the age is below 720
--- months. Assumes nothing.
+-- their tests. `earlier` is a strict order, by year, month and day, and that of one number made of a date; the bounds of a date of
+-- the calendar; a month has the days that it has in every year, or a 29 February, and none after one that is at or past its length;
+-- the fault is 0 exactly in the calendar; months to the 60th birthday never pass a bound that the age gives, and it is not past
+-- while the age is below 720 months. Assumes nothing.
 use mathlib.Core.Path.{◌≡◌, refl, sym, ◌∙◌}
 use mathlib.Core.Bool.{Bool, true, false, cond, not, ◌&&◌, ◌||◌, or-true, and-false, true≢false, false≢true}
 use mathlib.Core.Logic.{◌⊎◌, inl, inr, ⊎_elim}
@@ -31,6 +31,31 @@ by_first x y s h = simp (lt-ltb x y h)
 
 by_rest : (x y : ℕ) (s : Bool) → x ≡ y → s ≡ true → before_by x y s ≡ true
 by_rest x y s h t = simp (le-ltb x y (omega arith), eq-eqb x y h, t)
+
+by_not : (x y : ℕ) (s : Bool) → (y < x) ⊎ ((x ≡ y) × (s ≡ false)) → before_by x y s ≡ false
+by_not x y s =
+    ⊎_elim (λ h. simp (le-ltb x y (omega arith), ne_eqb x y (λ e. omega arith)))
+    (λ h. simp (le-ltb x y (omega (arith, h.0)), eq-eqb x y h.0, h.1))
+
+-- a date is before another, or is not, by the first of year, month and day that differs
+pub earlier_before : (a b : Date)
+    → (a.year < b.year) ⊎ ((a.year ≡ b.year) × ((a.month < b.month) ⊎ ((a.month ≡ b.month) × (a.day < b.day))))
+    → earlier a b ≡ true
+unfolding earlier
+earlier_before a b =
+    ⊎_elim (by_first a.year b.year _)
+    (λ y. by_rest a.year b.year _ y.0
+    (⊎_elim (by_first a.month b.month _)
+    (λ m. by_rest a.month b.month _ m.0 (lt-ltb a.day b.day m.1)) y.1))
+
+pub earlier_not_before : (a b : Date)
+    → (b.year < a.year) ⊎ ((a.year ≡ b.year) × ((b.month < a.month) ⊎ ((a.month ≡ b.month) × (b.day ≤ a.day))))
+    → earlier a b ≡ false
+unfolding earlier
+earlier_not_before a b h =
+    by_not a.year b.year _
+    (⊎_elim inl
+    (λ y. inr (y.0, by_not a.month b.month _ (⊎_elim inl (λ m. inr (m.0, le-ltb a.day b.day m.1)) y.1))) h)
 
 -- an order by a first number and then by a transitive rest is transitive
 by_trans : (x y z : ℕ) (s t u : Bool) → (s ≡ true → t ≡ true → u ≡ true)

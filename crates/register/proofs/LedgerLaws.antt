@@ -14,12 +14,13 @@ use borrow.Author.Tests.{eq-eqb, ne_eqb}
 use Rattle.calendar.proofs.TestsLaws.{by_zero}
 use Rattle.split.specs.Refusal.{refusal_of}
 use Rattle.split.proofs.QuoteLaws.{quote_best}
+use Rattle.split.proofs.ClaimsLaws.{remaining_claim, allowance_claim, in_turn_claim}
 use Rattle.register.specs.Line.{line_for}
 use Rattle.register.specs.Layout.{line_layout, bytes_of, used_by}
 use Rattle.register.specs.Check.{following, next_number, check_lines_by, bad_used, check_lines}
 use Rattle.register.specs.File.{Filing, filing, number_set, number_given}
 use Rattle.register.specs.Ledger.{Ledger, empty_ledger, ledger_refusal, entered, ledger_after, LineClaim, FirstClaim}
-use Rattle.register.proofs.LineLaws.{line_for-length, figures_back, total_back, lumps_back}
+use Rattle.register.proofs.LineLaws.{line_for-length, figures_back, total_back, shares_back, lumps_back}
 use Rattle.register.proofs.LayoutLaws.{Whole, bytes_more, whole_more}
 use Rattle.register.proofs.CheckLaws.{check_more, written_faultless}
 use Rattle.register.proofs.FileLaws.{Granted, refusal_none, given_first, given_right, given_next, given_known}
@@ -74,6 +75,9 @@ line_claim number f low accepted = record {
   text = refl;
   read = figures_back number f.line low;
   best = rw (lumps_back number f.line low, total_back number f.line low) (quote_best f.line accepted);
+  remaining = rw (shares_back number f.line low, total_back number f.line low) (remaining_claim f.line accepted);
+  allowance = rw (total_back number f.line low) (allowance_claim f.line accepted);
+  in_turn = rw (lumps_back number f.line low) (in_turn_claim f.line accepted);
 }
 
 -- the number that a filing sets is what is claimed of it

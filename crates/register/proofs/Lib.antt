@@ -14,6 +14,7 @@ pub mod LayoutLaws
 pub mod LedgerLaws
 pub mod LineLaws
 pub mod LineLoop
+pub mod Printed
 pub mod Shown
 pub mod StepsLaws
 pub mod TextLaws

@@ -1,11 +1,11 @@
 -- A line of a register: its length, that every character before the newline is a digit, and that read back it gives the
 -- figures it was written from: for any list of figures, and by induction on the shares. Assumes nothing.
-use Prim.Native.Nat.{ℕ, zero, suc, ◌+◌, ◌*◌, ◌<◌}
+use Prim.Native.Nat.{ℕ, zero, suc, ◌+◌, ◌*◌, ◌/◌, ◌<◌}
 use mathlib.Core.Bool.{false}
 use mathlib.Core.List.{List, [], ◌∷◌, ◌++◌, append_assoc}
 use mathlib.Core.Path.{◌≡◌, refl, sym, ◌∙◌, ap, subst}
 use native.Mathlib.Omega.{arith}
-use lib.ListN.{length, get_or, take, drop, length-append, get_or-append}
+use lib.ListN.{length, get_or, drop, length-append, get_or-append}
 use lib.Seq.{get_or_at}
 use Rattle.split.specs.declared.answers.Share.{Share}
 use Rattle.split.specs.Frame.{is_no_digit, bad_character, number_at, hex_text}
@@ -13,7 +13,7 @@ use Rattle.split.specs.Quote.{quote_of, no_share, SharesFit, lumps_in}
 use Rattle.split.proofs.FrameLaws.{digit_known}
 use Rattle.split.proofs.HexLaws.{hex_length, hex_good, hex_back, good_append, good_none}
 use Rattle.split.proofs.QuoteLaws.{quote_fits}
-use Rattle.register.specs.Line.{figure_width, header_length, second_place, share_length, share_count, text_length, Figures, figures_of, figures_for, header_figures, share_figures, shares_figures, line_figures, figures_text, line_text, line_for, number_in, member_in, total_in, share_at, shares_at, shares_in, figures_in, lumps_in_line}
+use Rattle.register.specs.Line.{figure_width, number_place, member_place, total_place, header_length, share_length, share_count, text_length, Figures, figures_of, figures_for, header_figures, share_figures, shares_figures, line_figures, figures_text, line_text, line_for, number_in, member_in, total_in, share_at, shares_at, shares_in, figures_in, lumps_in_line}
 
 -- figures one after the other: their text's length, that it is all digits, and that it is read back
 pub figures_length : (xs : List ℕ) → length (figures_text xs) ≡ length xs * figure_width
@@ -52,6 +52,23 @@ figures_behind (x ∷ xs) pre rest fit =
       simp (append_assoc, length-append, hex_length) at (figures_behind xs (pre ++ hex_text figure_width x) rest fit.1),
     ))
 
+-- of figures that are read back from a place, each is read from its own, and so are those of two lists one after the other
+figure_at : (l xs : List ℕ) (at place k : ℕ) → place ≡ at + k * figure_width → figures_at l at (length xs) ≡ xs → k < length xs
+    → number_at l place figure_width ≡ get_or xs k 0
+figure_at l [] at place k there e h = absurd (omega arith)
+figure_at l (x ∷ xs) at place zero there e h =
+    let here : place ≡ at = omega arith in
+    rw here (ap (λ (ys : List ℕ). get_or ys 0 0) e)
+figure_at l (x ∷ xs) at place (suc k) there e h =
+    figure_at l xs (at + figure_width) place k (omega arith) (ap (drop 1) e) (omega arith)
+
+figures_apart : (l xs ys : List ℕ) (at next : ℕ) → next ≡ at + length xs * figure_width → figures_at l at (length (xs ++ ys)) ≡ xs ++ ys
+    → (figures_at l at (length xs) ≡ xs) × (figures_at l next (length ys) ≡ ys)
+figures_apart l [] ys at next there e = let here : next ≡ at = omega arith in (refl, rw here e)
+figures_apart l (x ∷ xs) ys at next there e =
+    let rest = figures_apart l xs ys (at + figure_width) next (omega arith) (ap (drop 1) e) in
+    (λ i. ap (λ (zs : List ℕ). get_or zs 0 0) e i ∷ rest.0 i, rest.1)
+
 -- the shares by their figures: how many, that they fit, and that they are read back from a place
 shares_count : (xs : List Share) → length (shares_figures xs) ≡ length xs * length (share_figures no_share)
 shares_count [] = refl
@@ -59,28 +76,31 @@ shares_count (x ∷ xs) = omega (arith, shares_count xs)
 
 shares_fit : (xs : List Share) → SharesFit xs → Fit (shares_figures xs)
 shares_fit [] fit = tt
-shares_fit (x ∷ xs) fit = (fit.0, (fit.1, (fit.2, shares_fit xs fit.3)))
+shares_fit (x ∷ xs) fit = (omega arith, (omega arith, (omega arith, shares_fit xs fit.3)))
+
+-- the figure that stands so far behind a share's first
+share_figure : (l : List ℕ) (at : ℕ) (x : Share) → figures_at l at (length (share_figures x)) ≡ share_figures x
+    → (offset : ℕ) → offset / figure_width * figure_width ≡ offset → offset < share_length
+    → number_at l (at + offset) figure_width ≡ get_or (share_figures x) (offset / figure_width) 0
+share_figure l at x e offset whole h = figure_at l (share_figures x) at (at + offset) (offset / figure_width) (omega arith) e (omega arith)
 
 share_from : (l : List ℕ) (at : ℕ) (x : Share) → figures_at l at (length (share_figures x)) ≡ share_figures x → share_at l at ≡ x
 share_from l at x e =
-    let third : at + second_place ≡ at + figure_width + figure_width = omega arith in
+    let lump : (share_at l at).lump.0 ≡ x.lump.0 = figure_at l (share_figures x) at at 0 (omega arith) e (omega arith) in
+    let remaining : (share_at l at).remaining.0 ≡ x.remaining.0 = share_figure l at x e _ (omega arith) (omega arith) in
+    let second : (share_at l at).second.0 ≡ x.second.0 = share_figure l at x e _ (omega arith) (omega arith) in
     λ i. record {
-      lump = record { 0 = ap (λ (xs : List ℕ). get_or xs 0 0) e i };
-      remaining = record { 0 = ap (λ (xs : List ℕ). get_or xs 1 0) e i };
-      second = record { 0 = (ap (λ (n : ℕ). number_at l n figure_width) third ∙ ap (λ (xs : List ℕ). get_or xs 2 0) e) i };
+      lump = record { 0 = lump i };
+      remaining = record { 0 = remaining i };
+      second = record { 0 = second i };
     }
 
 shares_from : (xs : List Share) (l : List ℕ) (at : ℕ) → figures_at l at (length (shares_figures xs)) ≡ shares_figures xs
     → shares_at l at (length xs) ≡ xs
 shares_from [] l at e = refl
 shares_from (x ∷ xs) l at e =
-    let next : at + share_length ≡ at + figure_width + figure_width + figure_width = omega arith in
-    simp (
-      share_from l at x (ap (take (length (share_figures x))) e),
-      next,
-      shares_from xs l (at + figure_width + figure_width + figure_width)
-          (ap (drop (length (share_figures x))) e),
-    )
+    let apart = figures_apart l (share_figures x) (shares_figures xs) at (at + share_length) (omega arith) e in
+    simp (share_from l at x apart.0, shares_from xs l (at + share_length) apart.1)
 
 -- a line of any figures with as many shares as a line has
 module _ (f : Figures) (four : length f.shares ≡ share_count) where
@@ -129,22 +149,31 @@ module _ (k : ℕ) (c : List ℕ) where
     line_back : figures_at (line_for k c) 0 (length (line_figures (figures_for k c))) ≡ line_figures (figures_for k c)
     unfolding line_for figures_for figures_of
     line_back =
+        let fits = quote_fits c in
         text_back (figures_for k c)
-        (low, ((quote_fits c).member, ((quote_fits c).total, shares_fit (quote_of c).shares (quote_fits c).shares)))
+        (low, (omega (arith, fits), (omega (arith, fits), shares_fit (quote_of c).shares fits.shares)))
 
-    shares_back : shares_in (line_for k c) ≡ (quote_of c).shares
+    -- the header's figures and those of the shares
+    parts_back : (figures_at (line_for k c) 0 (length (header_figures (figures_for k c))) ≡ header_figures (figures_for k c))
+        × (figures_at (line_for k c) header_length (length (shares_figures (figures_for k c).shares)) ≡ shares_figures (figures_for k c).shares)
+    parts_back =
+        figures_apart (line_for k c) (header_figures (figures_for k c)) (shares_figures (figures_for k c).shares) 0 header_length refl line_back
+
+    pub shares_back : shares_in (line_for k c) ≡ (quote_of c).shares
     unfolding shares_in figures_for figures_of
-    shares_back =
-        rw (quote_fits c).four at (shares_from (quote_of c).shares (line_for k c) header_length
-        (ap (drop (length (header_figures (figures_for k c)))) line_back))
+    shares_back = rw four at (shares_from (quote_of c).shares (line_for k c) header_length parts_back.1)
+
+    header_back : (j place : ℕ) → place ≡ j * figure_width → j < length (header_figures (figures_for k c))
+        → number_at (line_for k c) place figure_width ≡ get_or (header_figures (figures_for k c)) j 0
+    header_back j place there h = figure_at (line_for k c) (header_figures (figures_for k c)) 0 place j (omega arith) parts_back.0 h
 
     pub number_back : number_in (line_for k c) ≡ k
     unfolding number_in figures_for figures_of
-    number_back = ap (λ (xs : List ℕ). get_or xs 0 0) line_back
+    number_back = header_back (number_place / figure_width) number_place refl (omega arith)
 
     pub total_back : total_in (line_for k c) ≡ (quote_of c).total.0
     unfolding total_in figures_for figures_of
-    total_back = ap (λ (xs : List ℕ). get_or xs 2 0) line_back
+    total_back = header_back (total_place / figure_width) total_place refl (omega arith)
 
     pub lumps_back : lumps_in_line (line_for k c) ≡ lumps_in (quote_of c).shares
     unfolding lumps_in_line
@@ -154,7 +183,7 @@ module _ (k : ℕ) (c : List ℕ) where
     unfolding figures_in member_in figures_for figures_of
     figures_back = λ i. record {
       number = number_back i;
-      member = ap (λ (xs : List ℕ). get_or xs 1 0) line_back i;
+      member = header_back (member_place / figure_width) member_place refl (omega arith) i;
       total = total_back i;
       shares = shares_back i;
     }

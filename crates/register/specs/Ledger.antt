@@ -4,8 +4,9 @@ use Rattle.std.specs.Prelude.{ℕ, ◌+◌, ◌*◌, ◌<◌, cond, not, ◌||�
 use Rattle.split.specs.Case.{head_of}
 use Rattle.split.specs.Refusal.{refusal_of}
 use Rattle.split.specs.Quote.{BestLumps}
+use Rattle.split.specs.Claims.{benefits_in, RemainingClaim, AllowanceClaim, InTurn}
 use Rattle.register.specs.declared.answers.Filed.{Filed}
-use Rattle.register.specs.Line.{figures_for, figures_in, line_for, total_in, lumps_in_line}
+use Rattle.register.specs.Line.{figures_for, figures_in, line_for, total_in, shares_in, lumps_in_line}
 use Rattle.register.specs.Layout.{Register, bytes_of, used_by}
 use Rattle.register.specs.Check.{bad_used, check_lines}
 use Rattle.register.specs.Steps.{Step, runs}
@@ -62,6 +63,13 @@ pub record LineClaim (number : ℕ) (f : Filing) (l : List ℕ) : Type 0 where
   pub read : figures_in l ≡ figures_for number f.line
   -- its lumps keep the caps, the allowance and the limits, and no rival that keeps them does better: see `BestLumps`
   pub best : BestLumps f.line (lumps_in_line l) (total_in l)
+  -- what remains of each pension and what it gives up are the pension, its second instalment is that of its lump, and the 25% is
+  -- kept: see `RemainingClaim`
+  pub remaining : RemainingClaim f.line (shares_in l) (total_in l)
+  -- its total keeps the allowance, and no split within caps and limit totals more unless that is spent: see `AllowanceClaim`
+  pub allowance : AllowanceClaim f.line (total_in l)
+  -- lowest price first, equal prices in line order: see `InTurn`
+  pub in_turn : InTurn (benefits_in f.line) (lumps_in_line l)
 
 -- what is claimed of the number that a filing sets as the first of a register: where it gives one, that is it, and where it gives
 -- 0, it is 100,000 times the year of the case's commencement, plus 1

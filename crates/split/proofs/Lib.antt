@@ -8,9 +8,11 @@ pub mod BenefitsLaws
 pub mod Best
 pub mod BytesLaws
 pub mod CaseLaws
+pub mod ClaimsLaws
 pub mod ConditionsLaws
 pub mod Cut
 pub mod Figures
+pub mod FixedByTotal
 pub mod FrameLaws
 pub mod GrantLoop
 pub mod Granted
@@ -19,6 +21,7 @@ pub mod Level
 pub mod LimitsLaws
 pub mod ListLoop
 pub mod MultipleLaws
+pub mod Order
 pub mod OverlongLaws
 pub mod PensionsLoop
 pub mod Prices
@@ -26,6 +29,7 @@ pub mod QuoteLaws
 pub mod QuotingLoop
 pub mod RangesLaws
 pub mod ReadingLaws
+pub mod Remaining
 pub mod Rows
 pub mod Served
 pub mod Turns

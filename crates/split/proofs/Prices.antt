@@ -25,7 +25,7 @@ rounded_near : (x y : ℕ) → rounded_up x y * y ≤ x + y
 rounded_near x y = Nat.le_trans (Nat.div-mul-le_self _ y) (omega arith)
 
 -- a price times its top is at least 3 tops and 20 bottoms, in billionths
-price_covers : (e : Factor) → 1 ≤ e.top → 3000000000 * e.top + 20000000000 * e.bottom ≤ price_of e * e.top
+pub price_covers : (e : Factor) → 1 ≤ e.top → 3000000000 * e.top + 20000000000 * e.bottom ≤ price_of e * e.top
 unfolding price_of
 price_covers e positive = rw Nat.add-mul (omega (arith, rounded_covers (20000000000 * e.bottom) e.top positive))
 

@@ -60,7 +60,7 @@ shares_more h (q ∷ ps) (y ∷ xs) p x e =
     ap (λ (l : List Share). share_of h q y ∷ l) (shares_more h ps xs p x (omega arith))
 
 -- a lump for each pension, of which every figure fits
-data Shared (h : Head) : List Pension → List ℕ → Type 0 where
+pub data Shared (h : Head) : List Pension → List ℕ → Type 0 where
   none : Shared h [] []
   more : {p : Pension} {ps : List Pension} {x : ℕ} {xs : List ℕ} → x < 4294967296
       → remaining_of (benefit_of h p) x < 4294967296 → second_of p x < 4294967296 → Shared h ps xs → Shared h (p ∷ ps) (x ∷ xs)
@@ -77,12 +77,12 @@ shared h (p ∷ ps) (x ∷ xs) a capped =
     (omega (arith, second_at_most h p x (a.each 0 (omega arith)))) (shared h ps xs (accepted_rest a) capped.1)
 
 -- there are as many lumps as pensions
-shared_counted : {h : Head} {ps : List Pension} {xs : List ℕ} → Shared h ps xs → length xs ≡ length ps
+pub shared_counted : {h : Head} {ps : List Pension} {xs : List ℕ} → Shared h ps xs → length xs ≡ length ps
 shared_counted none = refl
 shared_counted (more x r s rest) = ap suc (shared_counted rest)
 
 -- the lumps of their shares are those given
-shares_lumps : {h : Head} {ps : List Pension} {xs : List ℕ} (after : List Share) → Shared h ps xs
+pub shares_lumps : {h : Head} {ps : List Pension} {xs : List ℕ} (after : List Share) → Shared h ps xs
     → lumps_in (shares_of h ps xs ++ after) ≡ xs ++ lumps_in after
 unfolding share_of
 shares_lumps after none = refl
@@ -109,14 +109,15 @@ abbrev pub allowed_total : List ℕ → ℕ
 allowed_total s = allowed (allowance_in s) (total (grant no_allowance (benefits_of (head_of s) (pensions_of s))))
 
 -- what a line has that is not refused
-record GrantedCase (s : List ℕ) : Type 0 where
-  few : (head_of s).count ≤ 4
-  capped : total (lumps_granted (head_of s) (pensions_of s) (allowance_used_of s)) ≡ allowed_total s
-  best : Best (allowance_in s) (benefits_of (head_of s) (pensions_of s)) (lumps_granted (head_of s) (pensions_of s) (allowance_used_of s))
-  small : total (lumps_granted (head_of s) (pensions_of s) (allowance_used_of s)) ≤ 1000000000
-  each : Shared (head_of s) (pensions_of s) (lumps_granted (head_of s) (pensions_of s) (allowance_used_of s))
+pub record GrantedCase (s : List ℕ) : Type 0 where
+  pub few : (head_of s).count ≤ 4
+  pub accepted : Accepted (head_of s) (pensions_of s)
+  pub capped : total (lumps_granted (head_of s) (pensions_of s) (allowance_used_of s)) ≡ allowed_total s
+  pub best : Best (allowance_in s) (benefits_of (head_of s) (pensions_of s)) (lumps_granted (head_of s) (pensions_of s) (allowance_used_of s))
+  pub small : total (lumps_granted (head_of s) (pensions_of s) (allowance_used_of s)) ≤ 1000000000
+  pub each : Shared (head_of s) (pensions_of s) (lumps_granted (head_of s) (pensions_of s) (allowance_used_of s))
 
-case_granted : (s : List ℕ) → refusal_of s ≡ 0 → GrantedCase s
+pub case_granted : (s : List ℕ) → refusal_of s ≡ 0 → GrantedCase s
 unfolding refusal_of lumps_granted
 case_granted s e =
     let h = head_of s in
@@ -128,6 +129,7 @@ case_granted s e =
     let best = grant_best (allowance_in s) (benefits_of h ps) (accepted_tops h ps a) (omega arith) in
     record {
       few = (length_listed (length s) h.count last.0).counted.1;
+      accepted = a;
       capped = grant-total (allowance_in s) (benefits_of h ps) (accepted_tops h ps a) (omega arith);
       best = best;
       small = omega (arith, total_capped (benefits_of h ps) (lumps_granted (head_of s) (pensions_of s) (allowance_used_of s)) best.priced.caps);
@@ -135,7 +137,7 @@ case_granted s e =
     }
 
 -- it has as many shares as pensions are counted
-places_counted : (s : List ℕ) → GrantedCase s
+pub places_counted : (s : List ℕ) → GrantedCase s
     → length (shares_of (head_of s) (pensions_of s) (lumps_granted (head_of s) (pensions_of s) (allowance_used_of s))) ≡ (head_of s).count
 places_counted s g =
     shares_counted (head_of s) (pensions_of s) (lumps_granted (head_of s) (pensions_of s) (allowance_used_of s)) (shared_counted g.each)
@@ -184,7 +186,7 @@ granted_best s g =
     g.best
 
 -- the quote of a line is the grant's or the refusal's
-by_refusal : (P : Quote → Type 0) (s : List ℕ) → (refusal_of s ≡ 0 → P (granted_quote (head_of s) (pensions_of s) (allowance_used_of s)))
+pub by_refusal : (P : Quote → Type 0) (s : List ℕ) → (refusal_of s ≡ 0 → P (granted_quote (head_of s) (pensions_of s) (allowance_used_of s)))
     → ((refusal_of s ≡ 0 → ⊥) → P (refused_quote (refusal_of s))) → P (quote_of s)
 unfolding quote_of
 by_refusal P s granting refusing =

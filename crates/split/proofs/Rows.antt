@@ -7,7 +7,8 @@ use mathlib.Core.Path.{◌≡◌, refl, sym, ◌∙◌}
 use native.Mathlib.Omega.{arith}
 use lib.Dec.{eqb}
 use lib.ListN.{length, set}
-use borrow.Author.Tests.{leb-true, leb-false, eqb-true, eqb-false}
+use Rattle.std.proofs.lemmas.Bool.Decides.{nat_tests}
+use borrow.Author.Tests.{eqb-true, eqb-false}
 use Rattle.calendar.specs.Sums.{sum_of}
 use Rattle.split.specs.declared.limits.Benefit.{Benefit}
 use Rattle.split.specs.Grant.{Row, no_row, row_of, row_at, goes_first, cheapest}
@@ -34,6 +35,14 @@ pub every_start : (P : Row → Type 0) (bs : List Benefit) → P no_row → ((b 
 every_start P [] past new j = past
 every_start P (b ∷ bs) past new zero = new b
 every_start P (b ∷ bs) past new (suc j) = every_start P bs past new j
+
+-- The order of two rows is by price, and of equal prices by line: what does not go first is dearer, and what does is no dearer.
+-- This is all that is cited of it.
+pub later_dearer : (r behind : Row) → goes_first r behind ≡ false → behind.price < r.price
+later_dearer r behind e = grind (arith, nat_tests)
+
+pub first_no_dearer : (r behind : Row) → goes_first r behind ≡ true → r.price ≤ behind.price
+first_no_dearer r behind e = grind (arith, nat_tests)
 
 -- `cheapest` is a place of the rows, or their number
 pub cheapest_inside : (rs : List Row) → cheapest rs ≤ length rs
@@ -82,13 +91,13 @@ cheapest_lowest (r ∷ rs) =
     choose true true l w e p rest =
         first_lowest r rs w (λ j v. absurd (omega (arith, rest.least j v, eqb-true (cheapest rs) (length rs) e)))
     choose true false true w e p rest =
-        first_lowest r rs w (λ j v. omega (arith, rest.least j v, leb-true r.price (row_at rs (cheapest rs)).price p))
+        first_lowest r rs w (λ j v. omega (arith, rest.least j v, first_no_dearer r (row_at rs (cheapest rs)) p))
     choose true false false w e p rest =
         later_lowest r rs (cheapest rs) rest
         (λ v. omega (
           arith,
           cheapest_inside rs,
           eqb-false (cheapest rs) (length rs) e,
-          leb-false r.price (row_at rs (cheapest rs)).price p,
+          later_dearer r (row_at rs (cheapest rs)) p,
         ))
     choose false e l w eq p rest = later_lowest r rs (cheapest rs) rest (λ v. absurd (false≢true (sym w ∙ v)))

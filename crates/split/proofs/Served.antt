@@ -8,10 +8,11 @@ use mathlib.Core.Path.{◌≡◌, refl}
 use native.Mathlib.Nat
 use native.Mathlib.Omega.{arith}
 use lib.ListN.{length}
+use lib.Seq.{get_or-set_same, get_or-set_other}
 use Rattle.calendar.specs.Sums.{sum_of}
 use Rattle.split.specs.declared.limits.Benefit.{Benefit}
 use Rattle.split.specs.Limits.{total, price_of, WithinCaps, priced_limit}
-use Rattle.split.specs.Grant.{Row, row_of, served, row_at, serve, lumps_of}
+use Rattle.split.specs.Grant.{Row, no_row, row_of, served, row_at, serve, lumps_of}
 use Rattle.split.proofs.Rows.{sum_set, every_set, every_start}
 
 -- rows with the prices and caps of pensions
@@ -28,6 +29,20 @@ matches_serve : {bs : List Benefit} {rs : List Row} (i g : ℕ) → Matches bs r
 matches_serve i g none = none
 matches_serve zero g (more price cap rest) = more price cap rest
 matches_serve (suc i) g (more price cap rest) = more price cap (matches_serve i g rest)
+
+-- a row is served: it alone changes, and no price does
+pub row_here : (rs : List Row) (i g : ℕ) → i < length rs → row_at (serve rs i g) i ≡ served (row_at rs i) g
+row_here rs i g place = get_or-set_same rs i (served (row_at rs i) g) no_row place
+
+pub row_other : (rs : List Row) (i j g : ℕ) → (j ≡ i → ⊥) → row_at (serve rs i g) j ≡ row_at rs j
+row_other rs i j g other = get_or-set_other rs i j (served (row_at rs i) g) no_row other
+
+pub price_stays : (rs : List Row) (i g j : ℕ) → (row_at (serve rs i g) j).price ≡ (row_at rs j).price
+price_stays [] i g j = refl
+price_stays (r ∷ rs) zero g zero = refl
+price_stays (r ∷ rs) zero g (suc j) = refl
+price_stays (r ∷ rs) (suc i) g zero = refl
+price_stays (r ∷ rs) (suc i) g (suc j) = price_stays rs i g j
 
 -- the lump of a row, and what it costs
 abbrev pub lump_of : Row → ℕ

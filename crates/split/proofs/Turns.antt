@@ -34,7 +34,7 @@ most_affordable r left =
     (Nat.div-mul-le_self left r.price)
 
 -- and it leaves a price only if it is the cap
-most_reaches : (r : Row) (left : ℕ) → 1 ≤ r.price → r.price ≤ left - most r left * r.price → most r left ≡ r.cap.0
+pub most_reaches : (r : Row) (left : ℕ) → 1 ≤ r.price → r.price ≤ left - most r left * r.price → most r left ≡ r.cap.0
 unfolding most
 most_reaches r left positive h = go (dec_le r.cap.0 (left / r.price))
   where
@@ -55,7 +55,7 @@ state_turn {rs} {left} positive found state =
     (most_reaches r left price) state
 
 -- a turn gives no more than the most, whatever the allowance
-turn_run : {bs : List Benefit} {rs : List Row} {left : ℕ} (a : Allowance) → cheapest rs < length rs → Run bs rs left
+pub turn_run : {bs : List Benefit} {rs : List Row} {left : ℕ} (a : Allowance) → cheapest rs < length rs → Run bs rs left
     → Run bs (serve rs (cheapest rs) (next_lump rs left a)) (next_left rs left a)
 turn_run {rs = rs} {left = left} a found run =
     let r = row_at rs (cheapest rs) in

@@ -3,10 +3,12 @@ pub mod Arrays
 pub mod Benefits
 pub mod Bytes
 pub mod Case
+pub mod Claims
 pub mod Conditions
 pub mod Figures
 pub mod Frame
 pub mod Grant
+pub mod Letters
 pub mod Limits
 pub mod Overlong
 pub mod Quote
