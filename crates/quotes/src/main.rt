@@ -2,17 +2,14 @@
 // filed line, or R and the refusal as two decimal digits.
 #![tactic(auto)]
 
-ghost use Rattle.std.specs.Prelude.{◌+◌, ◌≤◌, ◌≡◌, length, IfOk, OnErr};
+ghost use Rattle.std.specs.Prelude.{◌+◌, ◌≤◌, ◌≡◌, length, take, drop, IfOk, OnErr};
 ghost use Rattle.split.specs.Case.{longest_line};
+ghost use Rattle.split.specs.Overlong.{QuotedAs};
 ghost use Rattle.quotes.specs.Bounds.{input_length, InBounds};
 
 use register::LINE_LENGTH;
-use split::LONGEST;
 use std::io;
 use std::io::Read;
-
-// One character more than the longest case line has: a longer line is refused by its characters and its length alone.
-const KEPT: usize = LONGEST + 1;
 
 // The bytes of a block of input, and the refusals that it has room for, one a line. The register is checked once a block, so a
 // larger block spends less on checks.
@@ -144,18 +141,15 @@ fn whole_lines(text: &[u8], before: usize) -> usize
     }
 }
 
-// Keeps the characters from a place on at the input's start. Of more than there is room for, the first are kept, and a
-// bad character among the others takes the first place: so the line is refused with 1 as the whole line is, and else with 2.
+// Keeps the characters from a place on, the beginning of a line, at the input's start. Of more than there is room for, the first
+// are kept, and a bad character among the others takes the first place: however the line goes on, it is refused as the whole
+// line is.
 fn keep_rest(input: &mut [u8], from: usize, end: usize) -> usize
     requires { (from ≤ end) × (end ≤ length input.old) × (1 ≤ length input.old) }
-    ensures { result ≤ longest_line + 1 }
+    ensures room { result ≤ longest_line + 1 }
+    ensures quoted { QuotedAs (take result input.new) (drop from (take end input.old)) }
 {
-    let kept = KEPT.min(end - from);
-    input.copy_within(from..from + kept, 0);
-    if split::has_bad_character(&input[from + kept..end]) {
-        input[0] = 0;
-    }
-    kept
+    split::keep_line(&mut input[..end], from)
 }
 
 // Takes the input up to an end: its whole lines are filed, and what is left is kept.
