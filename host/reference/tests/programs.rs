@@ -3,6 +3,7 @@
 mod common;
 
 use std::env;
+use std::fs::File;
 use std::io::Write;
 use std::path::{Path, PathBuf};
 use std::process::{Command, Stdio};
@@ -322,4 +323,35 @@ fn half_a_line_is_answered_when_it_ends() {
     talk.close();
     assert_eq!(talk.answer(), b"R02\n");
     talk.assert_ended();
+}
+
+/// What the proved program prints of the example and says on standard error,
+/// where one of the two files can't be used. It ends, and not well.
+fn failing(input: &str, output: Stdio) -> (Vec<u8>, String) {
+    let run = Command::new(proved_program())
+        .stdin(File::open(input).expect("the input opens"))
+        .stdout(output)
+        .stderr(Stdio::piped())
+        .spawn()
+        .and_then(|program| program.wait_with_output())
+        .expect("the program ends");
+    assert!(!run.status.success(), "a run that failed ended well");
+    (run.stdout, String::from_utf8(run.stderr).expect("a message of text"))
+}
+
+/// Answers that can't be written are not lost in silence.
+#[test]
+fn a_full_disk_is_told() {
+    let example = concat!(env!("CARGO_MANIFEST_DIR"), "/../../docs/example.txt");
+    let full = File::options().write(true).open("/dev/full").expect("the full device opens");
+    let (_, told) = failing(example, full.into());
+    assert!(told.contains("No space left on device"), "{told}");
+}
+
+/// An input that can't be read, as a directory, is not taken for an empty one.
+#[test]
+fn an_unreadable_input_is_told() {
+    let (printed, told) = failing("/", Stdio::piped());
+    assert_eq!(printed, b"");
+    assert!(told.contains("Is a directory"), "{told}");
 }
