@@ -24,7 +24,11 @@ use reference::quotes::REGISTER_LENGTH;
 fn proved_program() -> PathBuf {
     let built = || Path::new(env!("CARGO_MANIFEST_DIR")).join("../../target/bin/quotes");
     let program = env::var_os("PENSION_QUOTES").map_or_else(built, PathBuf::from);
-    assert!(program.is_file(), "{} is not there: run `make -C host program` first", program.display());
+    assert!(
+        program.is_file(),
+        "{} is not there: run `make -C host program` first",
+        program.display()
+    );
     program
 }
 
