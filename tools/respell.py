@@ -9,8 +9,8 @@ The table beside this file, respelled.tsv, has a line for each name: the old spe
     is a word of the code itself, so that only `ghost use` lines and clauses change;
   - in crates/*/must-fail: on the `old:` and `new:` lines of .edit files;
   - in README.md, docs and host: inside backticks, and in .rs, .c and .h files only in those of comments.
-A name that a file imports from outside the repository is left alone in that file, unless the file declares it too. No new name is
-an old one, so a second run changes nothing.
+A name that a file imports from outside the repository is left alone in that file, unless the file declares it too. It is for a tree
+as the kit's script leaves it, once: later, a name of a generated record may be spelled as an old one is.
 """
 
 import os

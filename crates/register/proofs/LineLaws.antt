@@ -36,15 +36,15 @@ abbrev Fit : List ℕ → Type 0
 Fit [] = Unit
 Fit (x ∷ xs) = (x < 4294967296) × Fit xs
 
-figures-more : (x : ℕ) (xs : List ℕ) → figures_text (x ∷ xs) ≡ hex_text figure_width x ++ figures_text xs
+figures_more : (x : ℕ) (xs : List ℕ) → figures_text (x ∷ xs) ≡ hex_text figure_width x ++ figures_text xs
 unfolding figures_text
-figures-more x xs = refl
+figures_more x xs = refl
 
 figures_behind : (xs pre rest : List ℕ) → Fit xs → figures_at (pre ++ (figures_text xs ++ rest)) (length pre) (length xs) ≡ xs
 figures_behind [] pre rest fit = refl
 figures_behind (x ∷ xs) pre rest fit =
     let behind : figures_text (x ∷ xs) ++ rest ≡ hex_text figure_width x ++ (figures_text xs ++ rest) =
-    rw (figures-more x xs) (append_assoc (hex_text figure_width x) (figures_text xs) rest)
+    rw (figures_more x xs) (append_assoc (hex_text figure_width x) (figures_text xs) rest)
     in
     subst (λ (t : List ℕ). figures_at (pre ++ t) (length pre) (suc (length xs)) ≡ x ∷ xs) (sym behind)
     (simp (

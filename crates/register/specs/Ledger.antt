@@ -63,8 +63,8 @@ pub record LineClaim (number : ℕ) (f : Filing) (l : List ℕ) : Type 0 where
   pub read : figures_in l ≡ figures_for number f.line
   -- its lumps keep the caps, the allowance and the limits, and no rival that keeps them does better: see `BestLumps`
   pub best : BestLumps f.line (lumps_in_line l) (total_in l)
-  -- what remains of each pension and what it gives up are the pension, its second instalment is that of its lump, and the 25% is
-  -- kept: see `RemainingClaim`
+  -- what remains of each pension and what it gives up make the pension, its second instalment is that of its lump, and the 25%
+  -- is kept: see `RemainingClaim`
   pub remaining : RemainingClaim f.line (shares_in l) (total_in l)
   -- its total keeps the allowance, and no split within caps and limit totals more unless that is spent: see `AllowanceClaim`
   pub allowance : AllowanceClaim f.line (total_in l)

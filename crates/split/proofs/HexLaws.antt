@@ -78,10 +78,10 @@ unfolding bad_character
 good_none = refl
 
 -- the last digit of a number that is written stands behind the others
-hex-last : (pre rest : List ℕ) (n x : ℕ)
+hex_last : (pre rest : List ℕ) (n x : ℕ)
     → digit_at (pre ++ (hex_text n (x / 16) ++ (hex_character (x % 16) ∷ rest))) (length pre + n) ≡ x % 16
 unfolding digit_at
-hex-last pre rest n x =
+hex_last pre rest n x =
     simp (
       get_or-append-add,
       get_or_at (hex_text n (x / 16)) (hex_character (x % 16)) rest 0 n (hex_length n (x / 16)),
@@ -93,17 +93,17 @@ number_none : (s : List ℕ) (at : ℕ) → number_at s at zero ≡ 0
 unfolding number_at
 number_none s at = refl
 
-number-more : (s : List ℕ) (at n : ℕ) → number_at s at (suc n) ≡ number_at s at n * 16 + digit_at s (at + n)
+number_more : (s : List ℕ) (at n : ℕ) → number_at s at (suc n) ≡ number_at s at n * 16 + digit_at s (at + n)
 unfolding number_at
-number-more s at n = refl
+number_more s at n = refl
 
 -- what is written behind any text is read back from there
 pub hex_back : (pre rest : List ℕ) (n x : ℕ) → x < 16 ^ n → number_at (pre ++ (hex_text n x ++ rest)) (length pre) n ≡ x
 hex_back pre rest zero x h = omega (arith, number_none (pre ++ (hex_text zero x ++ rest)) (length pre))
 hex_back pre rest (suc n) x h =
     let others = hex_back pre (hex_character (x % 16) ∷ rest) n (x / 16) (omega (arith, rw pow-suc at h)) in
-    let last = hex-last pre rest n x in
-    rw (hex_more n x, append_assoc (hex_text n (x / 16)) (hex_character (x % 16) ∷ []) rest, number-more)
+    let last = hex_last pre rest n x in
+    rw (hex_more n x, append_assoc (hex_text n (x / 16)) (hex_character (x % 16) ∷ []) rest, number_more)
     (omega (arith, others, last))
 
 -- a digit is the character of its value, so that two of one value are the same
