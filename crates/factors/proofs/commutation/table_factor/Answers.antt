@@ -9,15 +9,15 @@ use Rattle.factors.proofs.commutation.table_factor.Goals as goal
 
 pub returns-then-age-lt636 : goal.returns-then-age-lt636
 unfolding table1
-returns-then-age-lt636 c = simp (lt-leb _ _ c.if-age-lt636.true)
+returns-then-age-lt636 c = simp (lt-leb 636 c.args.age (omega arith))
 
 pub returns-then-age-gt875 : goal.returns-then-age-gt875
 unfolding table1
-returns-then-age-gt875 c = simp (le-leb _ _ c.if-age-lt636.false, lt-leb _ _ c.if-age-gt875.true)
+returns-then-age-gt875 c = simp (le-leb 636 c.args.age (omega arith), lt-leb c.args.age 875 (omega arith))
 
 pub returns : goal.returns
 unfolding table1 straight_line year_values
 returns c =
     let k = c.args.age - 636 in
     tabulate_at straight_line 240 k (omega arith)
-    ∙ sym (simp (table1, le-leb _ _ c.if-age-lt636.false, le-leb _ _ c.if-age-gt875.false))
+    ∙ sym (simp (table1, le-leb 636 c.args.age (omega arith), le-leb c.args.age 875 (omega arith)))

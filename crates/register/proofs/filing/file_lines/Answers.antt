@@ -20,7 +20,7 @@ pub following_number-requires : goal.following_number-requires
 following_number-requires c =
     let l = c.loop-at in
     let filed = c.file_known-filed in
-    let low = granted_low _ _ _ l.invariant.3.known filed.result filed.ensures.0 c.if-filed-eq0.true in
+    let low = granted_low _ _ _ l.invariant.3.known filed.result filed.ensures.0 (omega arith) in
     omega (arith, c.number_given-number.ensures, low)
 
 pub loop-at-preserved : goal.loop-at-preserved
@@ -34,10 +34,10 @@ loop-at-preserved c =
       search rules,
       passed_next p cut.result c.loop-at-test.true cut.ensures _ _ _ _ _ filed.ensures.1
           (elim c.if-filed-eq0.branch [
-            | then-filed-eq0 w ↦ granted_next _ _ _ p.known filed.result filed.ensures.0 _ _ w.if-filed-eq0.true w.filled-is
+            | then-filed-eq0 w ↦ granted_next _ _ _ p.known filed.result filed.ensures.0 _ _ (omega arith) w.filled-is
                 (ap (λ (k : Scanned). k.refusal) w.known-is)
                 (ap (λ (k : Scanned). k.next) w.known-is ∙ w.following_number.ensures ∙ ap following w.number_given-number.ensures)
-            | else-filed-eq0 w ↦ refused_next _ _ _ p.known filed.result filed.ensures.0 _ _ w.if-filed-eq0.false w.filled-is w.known-is
+            | else-filed-eq0 w ↦ refused_next _ _ _ p.known filed.result filed.ensures.0 _ _ (λ e. omega arith) w.filled-is w.known-is
           ])
           (elim c.if-count-refusals.branch [
             | then-count-refusals w ↦ refusals_next _ _ _ p.given _ _ _ _ p.count (ap (λ (a : Filed). a.refusal) filed.ensures.0) w.if-count-refusals.true

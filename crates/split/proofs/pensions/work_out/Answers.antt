@@ -75,10 +75,10 @@ behind c = let l = c.loop-i in omega (arith, l.invariant.0, c.loop-i-test.false,
 
 pub returns-then-stated-gt50000000 : goal.returns-then-stated-gt50000000
 returns-then-stated-gt50000000 c =
-    (gone_above (gone ((goal.at.returns-then-stated-gt50000000 c).After-loop-i)) _ c.if-stated-gt50000000.true c.lower_of-refused-then-stated-gt50000000.ensures, behind ((goal.at.returns-then-stated-gt50000000 c).After-loop-i))
+    (gone_above (gone ((goal.at.returns-then-stated-gt50000000 c).After-loop-i)) _ (omega arith) c.lower_of-refused-then-stated-gt50000000.ensures, behind ((goal.at.returns-then-stated-gt50000000 c).After-loop-i))
 
 pub returns-else-stated-gt50000000 : goal.returns-else-stated-gt50000000
-returns-else-stated-gt50000000 c = (gone_within (gone ((goal.at.returns-else-stated-gt50000000 c).After-loop-i)) c.if-stated-gt50000000.false, behind ((goal.at.returns-else-stated-gt50000000 c).After-loop-i))
+returns-else-stated-gt50000000 c = (gone_within (gone ((goal.at.returns-else-stated-gt50000000 c).After-loop-i)) (omega arith), behind ((goal.at.returns-else-stated-gt50000000 c).After-loop-i))
 
 pub overflow_add-i : goal.overflow_add-i
 overflow_add-i c = Fits-below tt (add-one-le (place ((goal.at.overflow_add-i c).In-loop-i)))
