@@ -1,0 +1,2 @@
+-- Names: `XLaws` has laws of the definitions of specs/X.
+pub mod NumbersLaws
