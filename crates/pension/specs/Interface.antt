@@ -1,6 +1,6 @@
 -- The answers of the engine as the C interface gives them: the same numbers, field by field. Assumes nothing.
 use Rattle.std.specs.Prelude.{ℕ, List, map}
-use Rattle.split.specs.declared.answers.Quote.{Quote}
+use Rattle.split.specs.Answers.{Quote}
 use Rattle.register.specs.declared.answers.Checked.{Checked}
 use Rattle.register.specs.declared.answers.Filed.{Filed}
 use Rattle.register.specs.declared.answers.Located.{Located}

@@ -1,9 +1,11 @@
 -- Every refusal has a number from 1 on, and no two have the same: an answer's number tells whether it was refused, and why. By the
 -- list of refusals, one by one.
-use Rattle.std.proofs.Common.{ℕ, ◌≡◌, ◌-◌, ◌<◌, rules, refl, List, [], ◌∷◌, get_or}
+use Rattle.std.proofs.Common.{ℕ, ◌≡◌, ◌-◌, ◌<◌, rules, refl, sym, arith, List, [], ◌∷◌, get_or, Result, Ok, Err, nat_eq}
+use Rattle.std.specs.Result.{is_ok}
+use borrow.Author.Tests.{ne_eqb}
 use Rattle.refusals.specs.declared.Refusal.{Refusal}
 use Rattle.refusals.specs.declared.Refusal.TheVariants.{BadCharacter, BadLength, DateOutsideCalendar, DatesOutOfOrder, AgeOutsideRange, UnknownKind, TermOutsideList, KindNotForAge, NoFactorForAge, PensionOutsideRange, BadRegister, RegisterFull, NumbersUsedUp, NotFound, CommutationOutsideRange, NotJoinable, TargetTooShort}
-use Rattle.refusals.specs.Numbers.{number}
+use Rattle.refusals.specs.Numbers.{number, refusal_number}
 
 pub number_positive : (r : Refusal) → 0 < number r
 number_positive BadCharacter = search rules
@@ -55,3 +57,8 @@ pub number_apart : (r s : Refusal) → number r ≡ number s → r ≡ s
 number_apart r s e =
     let back : numbered (number r) ≡ numbered (number s) = rw e in
     rw (← number_of_numbered r, back, number_of_numbered s)
+
+-- an answer is given where the number is 0
+pub given : {A : Type 0} (r : Result A Refusal) → is_ok r ≡ nat_eq (refusal_number r) 0
+given (Ok a) = refl
+given (Err r) = let some : 0 < number r = number_positive r in sym (ne_eqb (number r) 0 (λ e. omega arith))

@@ -9,7 +9,7 @@ use lib.Dec.{leb, ltb}
 use lib.ListN.{length, take, drop, length-append}
 use lib.Seq.{drop-drop}
 use borrow.Author.Tests.{ne_eqb, lt-ltb, le-ltb, le-leb, lt-leb}
-use Rattle.split.specs.declared.answers.Quote.{Quote}
+use Rattle.split.specs.Answers.{Quote}
 use Rattle.split.specs.Refusal.{refusal_of}
 use Rattle.split.specs.Quote.{quote_of}
 use Rattle.split.proofs.QuoteLaws.{quote_fits, quote_refusal}

@@ -2,7 +2,7 @@
 -- hexadecimal digits, and a newline; written from a number and a case line, and read back. Assumes nothing.
 use Rattle.std.specs.Prelude.{ℕ, zero, suc, ◌+◌, ◌*◌, List, [], ◌∷◌, ◌++◌}
 use Rattle.split.specs.declared.answers.Share.{Share}
-use Rattle.split.specs.declared.answers.Quote.{Quote}
+use Rattle.split.specs.Answers.{Quote}
 use Rattle.split.specs.Frame.{number_at, hex_text}
 use Rattle.split.specs.Quote.{quote_of, lumps_in}
 

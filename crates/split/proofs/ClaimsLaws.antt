@@ -14,7 +14,7 @@ use Rattle.calendar.specs.declared.Date.{Date}
 use Rattle.calendar.specs.Calendar.{earlier}
 use Rattle.split.specs.declared.allowance.Allowance.{Allowance}
 use Rattle.split.specs.declared.answers.Share.{Share}
-use Rattle.split.specs.declared.answers.Quote.{Quote}
+use Rattle.split.specs.Answers.{Quote}
 use Rattle.split.specs.Case.{head_of, pensions_of, allowance_used_of}
 use Rattle.split.specs.Refusal.{refusal_of}
 use Rattle.split.specs.Benefits.{benefit_of}

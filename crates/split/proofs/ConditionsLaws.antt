@@ -24,16 +24,16 @@ either (a ∷ xs) [] = []
 either (a ∷ xs) (b ∷ bs) = (a || b) ∷ either xs bs
 
 -- `lower` by its cases
-lower_none : (a : ℕ) → lower a 0 ≡ a
+pub lower_none : (a : ℕ) → lower a 0 ≡ a
 unfolding lower
 lower_none zero = refl
 lower_none (suc a) = simp (ne_eqb (suc a) 0 (omega arith))
 
-none_lower : (b : ℕ) → lower 0 b ≡ b
+pub none_lower : (b : ℕ) → lower 0 b ≡ b
 unfolding lower
 none_lower b = refl
 
-lower_both : (a b : ℕ) → 0 < a → 0 < b → lower a b ≡ min a b
+pub lower_both : (a b : ℕ) → 0 < a → 0 < b → lower a b ≡ min a b
 unfolding lower
 lower_both a b p q = simp (ne_eqb a 0 (omega arith), ne_eqb b 0 (omega arith))
 

@@ -16,7 +16,7 @@ use Rattle.split.specs.declared.case.Head.{Head}
 use Rattle.split.specs.declared.case.Pension.{Pension}
 use Rattle.split.specs.declared.limits.Benefit.{Benefit}
 use Rattle.split.specs.declared.answers.Share.{Share}
-use Rattle.split.specs.declared.answers.Quote.{Quote}
+use Rattle.split.specs.Answers.{Quote}
 use Rattle.split.specs.Case.{no_pension, pensions_at, allowance_used_at, case_length}
 use Rattle.split.specs.Bytes.{FieldOf}
 use Rattle.split.specs.Refusal.{age_of}

@@ -14,7 +14,7 @@ use borrow.Author.Tests.{eqb-true}
 use Rattle.split.specs.declared.case.Head.{Head}
 use Rattle.split.specs.declared.case.Pension.{Pension}
 use Rattle.split.specs.declared.answers.Share.{Share}
-use Rattle.split.specs.declared.answers.Quote.{Quote}
+use Rattle.split.specs.Answers.{Quote}
 use Rattle.split.specs.Case.{head_at, head_of, pensions_at, pensions_of, allowance_used_at, allowance_used_of, case_length}
 use Rattle.split.specs.Frame.{bad_character}
 use Rattle.split.specs.Refusal.{bad_length, conditions, refusal_of}

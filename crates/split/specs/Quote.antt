@@ -1,12 +1,15 @@
 -- The quote of a case line ("Split" and "Refusals from the input" of document 01). A case is its head, its pensions, and the
 -- pence of allowance already used. Assumes nothing.
-use Rattle.std.specs.Prelude.{ℕ, ◌-◌, ◌*◌, ◌/◌, ◌<◌, cond, List, [], ◌∷◌, ◌++◌, ◌≡◌, eqb, length, take, drop, replicate}
+use Rattle.std.specs.Prelude.{ℕ, ◌-◌, ◌*◌, ◌/◌, ◌<◌, cond, List, [], ◌∷◌, ◌++◌, ◌≡◌, eqb, length, take, drop, replicate, Result, Ok, Err}
+use Rattle.refusals.specs.declared.Refusal.{Refusal}
+use Rattle.refusals.specs.Numbers.{number}
 use Rattle.split.specs.declared.allowance.Allowance.{Allowance}
 use Rattle.split.specs.declared.case.Head.{Head}
 use Rattle.split.specs.declared.case.Pension.{Pension}
 use Rattle.split.specs.declared.limits.Benefit.{Benefit}
 use Rattle.split.specs.declared.answers.Share.{Share}
-use Rattle.split.specs.declared.answers.Quote.{Quote}
+use Rattle.split.specs.declared.answers.Granted.{Granted}
+use Rattle.split.specs.Answers.{Quote}
 use Rattle.split.specs.Case.{head_of, pensions_of, allowance_used_of}
 use Rattle.split.specs.Refusal.{refusal_of}
 use Rattle.split.specs.Benefits.{benefit_of, benefits_of}
@@ -61,6 +64,15 @@ granted_quote h ps used =
 -- "All figures are zero"
 unfoldable pub refused_quote : ℕ → Quote
 refused_quote r = record { refusal = r; member = 0; total = record { 0 = 0 }; shares = replicate 4 no_share }
+
+-- a grant as a quote
+abbrev pub as_quote : Granted → Quote
+as_quote g = record { refusal = 0; member = g.member; total = g.total; shares = g.shares }
+
+-- the answer of the code as a quote: a refusal by its number, with zero figures
+abbrev pub answered : Result Granted Refusal → Quote
+answered (Ok g) = as_quote g
+answered (Err r) = refused_quote (number r)
 
 -- the quote of a line
 unfoldable pub quote_of : List ℕ → Quote

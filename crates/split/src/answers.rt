@@ -9,10 +9,9 @@ pub struct Share {
     pub second: LumpPence,
 }
 
-// Refusal 0 is a grant. Under any other all figures are zero.
+// What is granted to an accepted case. A place without a pension has zeros.
 #[derive(Clone, Copy)]
-pub struct Quote {
-    pub refusal: u8,
+pub struct Granted {
     pub member: u32,
     pub total: LumpPence,
     pub shares: [Share; 4],

@@ -14,40 +14,40 @@ mod refusal;
 
 ghost use Rattle.std.specs.Prelude.{◌≡◌, true, ℕ, length};
 ghost use Rattle.split.specs.Refusal.{bad_length};
-ghost use Rattle.split.specs.Quote.{quote_of};
+ghost use Rattle.split.specs.Quote.{answered, quote_of};
 
-use answers::Quote;
+use answers::Granted;
 use frame::Cursor;
 pub use frame::{LONGEST, has_bad_character, hex_value, number_at};
 pub use overlong::keep_line;
+use refusals::Refusal;
 
 // The refusal of a line of a length that no case has.
-fn unread_quote(line: &[u8]) -> Quote
+fn unread_quote(line: &[u8]) -> Result<Granted, Refusal>
     requires { (n : ℕ) → bad_length (length line.now) n ≡ true }
-    ensures { result ≡ quote_of line.now }
+    ensures { answered result ≡ quote_of line.now }
 {
     if frame::has_bad_character(line) {
-        return quoting::refused_quote(1);
+        return Err(Refusal::BadCharacter);
     }
-    quoting::refused_quote(2)
+    Err(Refusal::BadLength)
 }
 
-// The quote of a case line, whatever its bytes: the refusal with zero figures, or the grant. One cursor goes through
-// the whole line.
-pub fn quote(line: &[u8]) -> Quote
-    ensures { result ≡ quote_of line.now }
+// The quote of a case line, whatever its bytes: the refusal or the grant. One cursor goes through the whole line.
+pub fn quote(line: &[u8]) -> Result<Granted, Refusal>
+    ensures { answered result ≡ quote_of line.now }
 {
     if (line.len() <= frame::BLOCK) | (LONGEST < line.len()) {
         return unread_quote(line);
     }
     let mut bytes = [0u8; LONGEST];
     if frame::decode(line, &mut bytes) {
-        return quoting::refused_quote(1);
+        return Err(Refusal::BadCharacter);
     }
     let read = case::read_head(&bytes, Cursor { at: 0 });
     let head = read.value;
     if refusal::has_bad_length(line.len(), head.count) {
-        return quoting::refused_quote(2);
+        return Err(Refusal::BadLength);
     }
     quoting::case_quote(&bytes, read.next, head, head.count as usize, line.len())
 }

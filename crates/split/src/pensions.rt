@@ -1,21 +1,16 @@
 // The pensions of a case one after the other: each is read, held to the rules, and worked out.
-ghost use Rattle.std.specs.Prelude.{◌≡◌, ◌≤◌};
+ghost use Rattle.std.specs.Prelude.{◌≡◌, ◌≤◌, IfOk};
+ghost use Rattle.refusals.specs.Numbers.{refusal_number};
 ghost use Rattle.split.specs.Case.{head_length, case_length};
 ghost use Rattle.split.specs.Working.{FourPlaces, columns, WorkedOut};
 
 use crate::case::Head;
 use crate::frame::{Cursor, LONGEST};
 use crate::{case, limits, refusal};
-
-// The refusal of pensions that were worked out, and the cursor behind them.
-#[derive(Clone, Copy)]
-pub struct WorkedPensions {
-    pub refusal: u8,
-    pub next: Cursor,
-}
+use refusals::Refusal;
 
 // Refusals 3 to 10 of a case with n pensions, the first of which is where the cursor stands; and where there is none, the
-// figures of each pension at its place. One loop does it all, so that no pension is kept.
+// figures of each pension at its place, and the cursor behind the last. One loop does it all, so that no pension is kept.
 pub fn work_out(
     bytes: &[u8; LONGEST],
     at: Cursor,
@@ -27,9 +22,9 @@ pub fn work_out(
     caps: &mut [u32; 4],
     prices: &mut [u64; 4],
     increases: &mut [u16; 4],
-) -> WorkedPensions
+) -> Result<Cursor, Refusal>
     requires { (at.at ≡ head_length) × (n ≤ 4) × FourPlaces (columns pensions.old tops.old bottoms.old caps.old prices.old increases.old) }
-    ensures { WorkedOut head bytes.now n result.refusal (columns pensions.new tops.new bottoms.new caps.new prices.new increases.new) × (result.next.at ≡ case_length n) }
+    ensures { WorkedOut head bytes.now n (refusal_number result) (columns pensions.new tops.new bottoms.new caps.new prices.new increases.new) × IfOk result (λ next. next.at ≡ case_length n) }
 {
     let basis = limits::basis_of(head);
     let mut refused = refusal::head_refusal(head, basis.age);
@@ -41,7 +36,7 @@ pub fn work_out(
         let p = read.value;
         refused = refusal::lower_of(refused, refusal::pension_refusal(head, basis.age, p));
         stated += p.stated.0 as u64;
-        let accepted = (refused == 0) & (stated <= 50000000);
+        let accepted = refused.is_ok() & (stated <= 50000000);
         limits::store_figures(
             accepted, basis, p, i, pensions, tops, bottoms, caps, prices, increases,
         );
@@ -49,10 +44,8 @@ pub fn work_out(
         i += 1;
     }
     if 50000000 < stated {
-        refused = refusal::lower_of(refused, 10);
+        refused = refusal::lower_of(refused, Err(Refusal::PensionOutsideRange));
     }
-    WorkedPensions {
-        refusal: refused,
-        next,
-    }
+    refused?;
+    Ok(next)
 }

@@ -4,16 +4,17 @@ ghost use Rattle.split.specs.Case.{pensions_at, allowance_used_at, head_length, 
 ghost use Rattle.split.specs.Bytes.{FieldOf};
 ghost use Rattle.split.specs.Refusal.{bad_length};
 ghost use Rattle.split.specs.Limits.{total};
-ghost use Rattle.split.specs.Quote.{padded, no_share, refused_quote};
+ghost use Rattle.split.specs.Quote.{padded, no_share, answered};
 ghost use Rattle.split.specs.Working.{placed, shares_in, remaining_in, second_in, FilledBy, share_from_columns, case_quote};
 ghost use Rattle.split.specs.Ranges.{ShareRange, SharesRange};
 
-use crate::answers::{Quote, Share};
+use crate::answers::{Granted, Share};
 use crate::case::Head;
 use crate::frame::{Cursor, LONGEST};
 use crate::{allowance, case, grant, pensions};
 use factors::effective::Factor;
 use factors::money::{LumpPence, YearlyPence};
+use refusals::Refusal;
 
 fn no_share() -> Share
     ensures { result ≡ no_share }
@@ -139,9 +140,9 @@ pub fn case_quote(
     head: Head,
     n: usize,
     characters: usize,
-) -> Quote
+) -> Result<Granted, Refusal>
     requires { (at.at ≡ head_length) × (bad_length characters n ≡ false) }
-    ensures { FieldOf bytes.now characters result (λ s. case_quote head (pensions_at s n) (allowance_used_at s (case_length n) characters)) }
+    ensures { FieldOf bytes.now characters (answered result) (λ s. case_quote head (pensions_at s n) (allowance_used_at s (case_length n) characters)) }
 {
     let mut pensions = [0u32; 4];
     let mut tops = [0u64; 4];
@@ -149,7 +150,7 @@ pub fn case_quote(
     let mut caps = [0u32; 4];
     let mut prices = [0u64; 4];
     let mut increases = [0u16; 4];
-    let worked = pensions::work_out(
+    let next = pensions::work_out(
         bytes,
         at,
         head,
@@ -160,31 +161,16 @@ pub fn case_quote(
         &mut caps,
         &mut prices,
         &mut increases,
-    );
-    if worked.refusal != 0 {
-        return refused_quote(worked.refusal);
-    }
-    let used = case::read_allowance_used(bytes, worked.next, characters);
+    )?;
+    let used = case::read_allowance_used(bytes, next, characters);
     let allowance = allowance::allowance_of(head.commencement, used);
     let mut lumps = [0u32; 4];
     grant::grant_of(&pensions, &prices, &caps, n, allowance, &mut lumps);
     let total = total_of(&lumps, n);
     let shares = shares_of(&pensions, &tops, &bottoms, &increases, &lumps, n);
-    Quote {
-        refusal: 0,
+    Ok(Granted {
         member: head.member,
         total,
         shares,
-    }
-}
-
-pub fn refused_quote(refusal: u8) -> Quote
-    ensures { result ≡ refused_quote refusal }
-{
-    Quote {
-        refusal,
-        member: 0,
-        total: LumpPence(0),
-        shares: [no_share(); 4],
-    }
+    })
 }

@@ -2,10 +2,12 @@
 ghost use Rattle.std.specs.Prelude.{◌≡◌, true, false, cond, [], eqb};
 ghost use Rattle.split.specs.Refusal.{age_of, bad_length, undated_head, undated, disordered, bad_age, unknown_kind, unlisted, wrong_age, no_factor, unstated, conditions_with};
 ghost use Rattle.calendar.specs.Tests.{lowest, within};
+ghost use Rattle.refusals.specs.Numbers.{refusal_number};
 ghost use Rattle.split.specs.Conditions.{lower, later_conditions, pension_conditions};
 
 use crate::case::{Head, Pension};
 use crate::frame;
+use refusals::Refusal;
 
 fn is_within(low: u32, high: u32, x: u32) -> bool
     ensures { result ≡ within low high x }
@@ -119,53 +121,53 @@ fn is_unstated(p: Pension) -> bool
 }
 
 // The lowest refusal that the head alone gives.
-pub fn head_refusal(head: Head, age: u32) -> u8
+pub fn head_refusal(head: Head, age: u32) -> Result<(), Refusal>
     requires { age ≡ age_of head }
-    ensures { result ≡ lowest 3 (conditions_with false head []) }
+    ensures { refusal_number result ≡ lowest 3 (conditions_with false head []) }
 {
     if is_undated_head(head) {
-        return 3;
+        return Err(Refusal::DateOutsideCalendar);
     }
     if is_bad_age(age) {
-        return 5;
+        return Err(Refusal::AgeOutsideRange);
     }
-    0
+    Ok(())
 }
 
 // The lowest refusal that a pension gives, rule by rule.
-fn lowest_refusal(head: Head, age: u32, p: Pension) -> u8
+fn lowest_refusal(head: Head, age: u32, p: Pension) -> Result<(), Refusal>
     requires { age ≡ age_of head }
-    ensures { result ≡ lowest 3 (pension_conditions head p) }
+    ensures { refusal_number result ≡ lowest 3 (pension_conditions head p) }
 {
     if is_undated(p) {
-        return 3;
+        return Err(Refusal::DateOutsideCalendar);
     }
     if is_disordered(head, p) {
-        return 4;
+        return Err(Refusal::DatesOutOfOrder);
     }
     if is_unknown_kind(p) {
-        return 6;
+        return Err(Refusal::UnknownKind);
     }
     terms_refusal(age, p)
 }
 
 // The same of the conditions after the kind.
-fn terms_refusal(age: u32, p: Pension) -> u8
-    ensures { result ≡ lowest 7 (later_conditions age p) }
+fn terms_refusal(age: u32, p: Pension) -> Result<(), Refusal>
+    ensures { refusal_number result ≡ lowest 7 (later_conditions age p) }
 {
     if is_unlisted(p) {
-        return 7;
+        return Err(Refusal::TermOutsideList);
     }
     if is_wrong_age(age, p) {
-        return 8;
+        return Err(Refusal::KindNotForAge);
     }
     if has_no_factor(age, p) {
-        return 9;
+        return Err(Refusal::NoFactorForAge);
     }
     if is_unstated(p) {
-        return 10;
+        return Err(Refusal::PensionOutsideRange);
     }
-    0
+    Ok(())
 }
 
 // Whether the dates of a service are in order, and none of them is a 29 February.
@@ -205,25 +207,29 @@ fn has_plain_terms(age: u32, p: Pension) -> bool
 
 // The lowest refusal that a pension gives. Most pensions give none, which is told without a look at leap years; only the
 // others are held to the rules one by one.
-pub fn pension_refusal(head: Head, age: u32, p: Pension) -> u8
+pub fn pension_refusal(head: Head, age: u32, p: Pension) -> Result<(), Refusal>
     requires { age ≡ age_of head }
-    ensures { result ≡ lowest 3 (pension_conditions head p) }
+    ensures { refusal_number result ≡ lowest 3 (pension_conditions head p) }
 {
     if is_plain_service(head, p) && has_plain_terms(age, p) {
-        return 0;
+        return Ok(());
     }
     lowest_refusal(head, age, p)
 }
 
-// The lower of two refusals, of which 0 is none.
-pub fn lower_of(a: u8, b: u8) -> u8
-    ensures { result ≡ lower a b }
+// The lower of two refusals, of which Ok is none.
+pub fn lower_of(a: Result<(), Refusal>, b: Result<(), Refusal>) -> Result<(), Refusal>
+    ensures { refusal_number result ≡ lower (refusal_number a) (refusal_number b) }
 {
-    if a == 0 {
+    let Err(first) = a else {
         return b;
-    }
-    if b == 0 {
+    };
+    let Err(second) = b else {
         return a;
+    };
+    if first.number() <= second.number() {
+        a
+    } else {
+        b
     }
-    if a <= b { a } else { b }
 }

@@ -1,7 +1,7 @@
 -- `pension_quote` gives the engine's quote, field by field; a quote has four shares.
 use mathlib.Core.Path.{◌∙◌, ap}
 use lib.ListN.{length}
-use Rattle.split.specs.declared.answers.Quote.{Quote}
+use Rattle.split.specs.Answers.{Quote}
 use Rattle.split.proofs.QuoteLaws.{quote_fits}
 use Rattle.pension.specs.Interface.{quote_for_c}
 use Rattle.pension.proofs.pension_quote.Goals as goal

@@ -21,7 +21,7 @@ sized c = length_between _ c.if-line.false
 pub returns-then-decode : goal.returns-then-decode
 returns-then-decode c =
     quote_refused _ 1 _ (λ e. omega arith) (refused_character _ (sym c.decode.ensures.0 ∙ c.if-decode.true))
-    c.refused_quote.ensures
+    refl
 
 -- past the second it has digits only
 digits : (c : Else-decode) → bad_character c.args.line.now ≡ false
@@ -39,7 +39,7 @@ pub returns-then-has_bad_length : goal.returns-then-has_bad_length
 returns-then-has_bad_length c =
     quote_refused _ 2 _ (λ z. omega arith)
     (refused_length _ _ (digits ((goal.at.returns-then-has_bad_length c).Else-decode)) (headed ((goal.at.returns-then-has_bad_length c).After-read_head-read)) (sym c.has_bad_length.ensures ∙ c.if-has_bad_length.true))
-    c.refused_quote-then-has_bad_length.ensures
+    refl
 
 -- past the third its length is that of its count
 measured : (c : Else-has_bad_length)

@@ -9,11 +9,11 @@ use Rattle.split.proofs.unread_quote.Goals as goal
 pub returns-then-has_bad_character : goal.returns-then-has_bad_character
 returns-then-has_bad_character c =
     quote_refused _ 1 _ (λ e. omega arith)
-    (refused_character _ (sym c.has_bad_character.ensures ∙ c.if-has_bad_character.true)) c.refused_quote.ensures
+    (refused_character _ (sym c.has_bad_character.ensures ∙ c.if-has_bad_character.true)) refl
 
 pub returns : goal.returns
 returns c =
     quote_refused _ 2 _ (λ e. omega arith)
     (refused_length _ (head_of c.args.line.now) (sym c.has_bad_character.ensures ∙ c.if-has_bad_character.false) refl
     (c.requires _))
-    c.refused_quote-2.ensures
+    refl

@@ -1,19 +1,25 @@
 -- `work_out` goes through the pensions one by one: the first `i` were read, judged and summed, and held where none is refused.
 use Prim.Native.Nat.{ℕ, ◌+◌, ◌*◌, ◌≤◌, ◌<◌, zero-le}
+use mathlib.Core.Bool.{Bool, ◌&&◌}
+use lib.Dec.{leb}
 use mathlib.Core.Path.{◌≡◌, refl, ◌∙◌, ap}
 use native.Mathlib.Nat.{le_antisymm, lt_of_lt_of_le}
 use native.Mathlib.Numerals.{add-one-le}
 use native.Mathlib.Omega.{arith}
 use mir.Facts.{Fits-below}
+use Rattle.std.proofs.Common.{nat_eq}
+use Rattle.std.proofs.lemmas.Result.{err_from_is_err_and}
 use Rattle.calendar.specs.Tests.{lowest}
+use Rattle.refusals.specs.Numbers.{refusal_number}
+use Rattle.refusals.proofs.NumbersLaws.{given}
 use Rattle.split.specs.Case.{case_length}
 use Rattle.split.specs.Conditions.{lower, pension_conditions}
-use Rattle.split.specs.Working.{columns}
+use Rattle.split.specs.Working.{columns, WorkedOut}
 use Rattle.split.proofs.ListLoop.{fewer}
 use Rattle.split.proofs.WorkingLaws.{basis_age}
 use Rattle.split.proofs.PensionsLoop.{Gone, gone_none, one_worked, none_refused, gone_all, gone_above, gone_within}
 use Rattle.split.proofs.pensions.work_out.Goals as goal
-use Rattle.split.proofs.pensions.work_out.Goals.{After-loop-i, After-lower_of-refused, After-struct_known-1, In-loop-i}
+use Rattle.split.proofs.pensions.work_out.Goals.{After-loop-i, After-lower_of-refused, After-is_ok, In-loop-i, Joined-stated-gt50000000, then-stated-gt50000000, else-stated-gt50000000}
 
 pub head_refusal-refused-requires : goal.head_refusal-refused-requires
 head_refusal-refused-requires c = basis_age _ _ c.basis_of-basis.ensures
@@ -30,23 +36,29 @@ place : (c : In-loop-i) → c.loop-i.i < 4
 place c = lt_of_lt_of_le c.loop-i-test.true c.requires.1
 
 -- the refusal so far is the lower of that of the pensions before and this one's
-judged : (c : After-lower_of-refused) → let test = c in
-    c.lower_of-refused.result ≡ lower test.loop-i.refused
-    (lowest 3 (pension_conditions test.args.head c.read_pension-read.result.value))
+judged : (c : After-lower_of-refused)
+    → refusal_number c.lower_of-refused.result
+    ≡ lower (refusal_number c.loop-i.refused) (lowest 3 (pension_conditions c.args.head c.read_pension-read.result.value))
 judged c =
     c.lower_of-refused.ensures
-    ∙ ap (λ (r : ℕ). lower c.loop-i.refused r) c.pension_refusal.ensures
+    ∙ ap (λ (r : ℕ). lower (refusal_number c.loop-i.refused) r) c.pension_refusal.ensures
+
+-- none is refused so far where its number is 0
+told : (c : After-is_ok) → c.is_ok.result ≡ nat_eq (refusal_number c.lower_of-refused.result) 0
+told c = c.is_ok.ensures.value ∙ given c.lower_of-refused.result
 
 pub store_figures-requires : goal.store_figures-requires
 store_figures-requires c = (
-  none_refused _ _ _ c.loop-i.refused _ c.loop-i.stated _ c.basis_of-basis.ensures
-      (judged ((goal.at.store_figures-requires c).After-lower_of-refused)) refl,
+  λ accepted.
+      none_refused _ _ _ (refusal_number c.loop-i.refused) _ c.loop-i.stated _ c.basis_of-basis.ensures
+      (judged ((goal.at.store_figures-requires c).After-lower_of-refused)) refl
+      (rw (← told ((goal.at.store_figures-requires c).After-is_ok)) accepted),
   place ((goal.at.store_figures-requires c).In-loop-i),
   c.loop-i.invariant.3.four,
 )
 
 -- the total is at most a full number for each pension
-grown : (c : After-struct_known-1) → let read = c in
+grown : (c : After-is_ok) → let read = c in
     let l = read.loop-i in
     l.stated + read.read_pension-read.result.value.stated.0 ≤ (l.i + 1) * 4294967295
 grown c = omega arith
@@ -56,14 +68,14 @@ loop-i-preserved c =
     let l = c.loop-i in (
       add-one-le c.loop-i-test.true,
       omega (arith, c.read_pension-read.ensures.next, l.invariant.1),
-      grown ((goal.at.loop-i-preserved c).After-struct_known-1),
+      grown ((goal.at.loop-i-preserved c).After-is_ok),
       one_worked l.invariant.3 c.read_pension-read.result.value _ _ _ l.invariant.1 c.read_pension-read.ensures (judged ((goal.at.loop-i-preserved c).After-lower_of-refused))
-          refl _ _ refl (place ((goal.at.loop-i-preserved c).In-loop-i)) (c.store_figures.ensures _ c.basis_of-basis.ensures),
+          refl _ _ (ap (λ (x : Bool). x && leb (l.stated + c.read_pension-read.result.value.stated.0) 50000000) (told ((goal.at.loop-i-preserved c).After-is_ok))) (place ((goal.at.loop-i-preserved c).In-loop-i)) (c.store_figures.ensures _ c.basis_of-basis.ensures),
     )
 
 -- after the loop all n were gone through
 gone : (c : After-loop-i) → let l = c.loop-i in
-    Gone c.args.head c.args.bytes.now c.args.n (case_length c.args.n) l.refused l.stated
+    Gone c.args.head c.args.bytes.now c.args.n (case_length c.args.n) (refusal_number l.refused) l.stated
     (columns l.pensions l.tops l.bottoms l.caps l.prices l.increases)
 gone c =
     let l = c.loop-i in
@@ -73,12 +85,26 @@ gone c =
 behind : (c : After-loop-i) → c.loop-i.next.at ≡ case_length c.args.n
 behind c = let l = c.loop-i in omega (arith, l.invariant.0, c.loop-i-test.false, l.invariant.1)
 
-pub returns-then-stated-gt50000000 : goal.returns-then-stated-gt50000000
-returns-then-stated-gt50000000 c =
-    (gone_above (gone ((goal.at.returns-then-stated-gt50000000 c).After-loop-i)) _ (omega arith) c.lower_of-refused-then-stated-gt50000000.ensures, behind ((goal.at.returns-then-stated-gt50000000 c).After-loop-i))
+-- and the total counts, whether or not it is above the limit
+ended : (c : Joined-stated-gt50000000) → let l = c.loop-i in
+    WorkedOut c.args.head c.args.bytes.now c.args.n (refusal_number c.if-stated-gt50000000.refused)
+    (columns l.pensions l.tops l.bottoms l.caps l.prices l.increases)
+ended c = elim c.if-stated-gt50000000.branch [
+  | then-stated-gt50000000 w ↦
+      rw w.refused-is
+      (gone_above (gone ((goal.at.Joined-stated-gt50000000 c).After-loop-i)) _ w.if-stated-gt50000000.true w.lower_of-refused-then-stated-gt50000000.ensures)
+  | else-stated-gt50000000 w ↦
+      rw w.refused-is (gone_within (gone ((goal.at.Joined-stated-gt50000000 c).After-loop-i)) w.if-stated-gt50000000.false)
+]
 
-pub returns-else-stated-gt50000000 : goal.returns-else-stated-gt50000000
-returns-else-stated-gt50000000 c = (gone_within (gone ((goal.at.returns-else-stated-gt50000000 c).After-loop-i)) (omega arith), behind ((goal.at.returns-else-stated-gt50000000 c).After-loop-i))
+pub returns-in_err-refused : goal.returns-in_err-refused
+returns-in_err-refused c =
+    let p = err_from_is_err_and c.from_residual.result c.from_residual.ensures.1 in
+    rw (p.1, p.2) (rw c.in_err-refused.was at (ended ((goal.at.returns-in_err-refused c).Joined-stated-gt50000000)), tt)
+
+pub returns : goal.returns
+returns c =
+    (rw c.in_ok-refused.was at (ended ((goal.at.returns c).Joined-stated-gt50000000)), behind ((goal.at.returns c).After-loop-i))
 
 pub overflow_add-i : goal.overflow_add-i
 overflow_add-i c = Fits-below tt (add-one-le (place ((goal.at.overflow_add-i c).In-loop-i)))

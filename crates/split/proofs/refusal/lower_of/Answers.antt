@@ -1,21 +1,22 @@
--- `lower_of` is the definition `lower`, branch by branch.
-use borrow.Author.Tests.{eq-eqb, ne_eqb}
+-- `lower_of` is the definition `lower` of the numbers, case by case: that of a refusal is above 0.
+use mathlib.Core.Path.{sym, ◌∙◌}
 use native.Mathlib.Omega.{arith}
-use Rattle.split.specs.Conditions.{lower}
+use Rattle.refusals.proofs.NumbersLaws.{number_positive}
+use Rattle.split.proofs.ConditionsLaws.{lower_none, none_lower, lower_both}
 use Rattle.split.proofs.refusal.lower_of.Goals as goal
 
-pub returns-then-a-eq0 : goal.returns-then-a-eq0
-unfolding lower
-returns-then-a-eq0 c = simp (lower, eq-eqb _ _ c.if-a-eq0.true)
+pub returns-in_default : goal.returns-in_default
+returns-in_default c = rw c.in_default.is (sym (none_lower _))
 
-pub returns-then-b-eq0 : goal.returns-then-b-eq0
-unfolding lower
-returns-then-b-eq0 c = simp (lower, ne_eqb _ _ c.if-a-eq0.false, eq-eqb _ _ c.if-b-eq0.true)
+pub returns-in_default-b : goal.returns-in_default-b
+returns-in_default-b c = rw (c.in-Err.is, c.in_default-b.is) (sym (lower_none _))
 
-pub returns-then-a-b : goal.returns-then-a-b
-unfolding lower
-returns-then-a-b c = simp (lower, ne_eqb _ _ c.if-a-eq0.false, ne_eqb _ _ c.if-b-eq0.false) (omega arith)
+pub returns-then-number : goal.returns-then-number
+returns-then-number c =
+    rw (c.in-Err.is, c.in-Err-b.is)
+    (sym (lower_both _ _ (number_positive c.in-Err.first) (number_positive c.in-Err-b.second) ∙ omega arith))
 
-pub returns-else-a-b : goal.returns-else-a-b
-unfolding lower
-returns-else-a-b c = simp (lower, ne_eqb _ _ c.if-a-eq0.false, ne_eqb _ _ c.if-b-eq0.false) (omega arith)
+pub returns-else-number : goal.returns-else-number
+returns-else-number c =
+    rw (c.in-Err.is, c.in-Err-b.is)
+    (sym (lower_both _ _ (number_positive c.in-Err.first) (number_positive c.in-Err-b.second) ∙ omega arith))
