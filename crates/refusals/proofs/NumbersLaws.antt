@@ -26,6 +26,9 @@ number_positive CommutationOutsideRange = search rules
 number_positive NotJoinable = search rules
 number_positive TargetTooShort = search rules
 
+pub number_some : (r : Refusal) → number r ≡ 0 → ⊥
+number_some r e = let some : 0 < number r = number_positive r in omega arith
+
 -- the refusals in the order of their numbers
 listed : List Refusal
 listed = BadCharacter ∷ BadLength ∷ DateOutsideCalendar ∷ DatesOutOfOrder ∷ AgeOutsideRange ∷ UnknownKind ∷ TermOutsideList ∷ KindNotForAge ∷ NoFactorForAge ∷ PensionOutsideRange ∷ BadRegister ∷ RegisterFull ∷ NumbersUsedUp ∷ NotFound ∷ CommutationOutsideRange ∷ NotJoinable ∷ TargetTooShort ∷ []
@@ -61,4 +64,4 @@ number_apart r s e =
 -- an answer is given where the number is 0
 pub given : {A : Type 0} (r : Result A Refusal) → is_ok r ≡ nat_eq (refusal_number r) 0
 given (Ok a) = refl
-given (Err r) = let some : 0 < number r = number_positive r in sym (ne_eqb (number r) 0 (λ e. omega arith))
+given (Err r) = sym (ne_eqb (number r) 0 (number_some r))

@@ -12,7 +12,7 @@ use borrow.Author.Tests.{ne_eqb, lt-ltb, le-ltb, le-leb, lt-leb}
 use Rattle.split.specs.Answers.{Quote}
 use Rattle.split.specs.Refusal.{refusal_of}
 use Rattle.split.specs.Quote.{quote_of}
-use Rattle.split.proofs.QuoteLaws.{quote_fits, quote_refusal}
+use Rattle.split.proofs.QuoteLaws.{quote_fits}
 use Rattle.register.specs.declared.answers.Filed.{Filed}
 use Rattle.register.specs.declared.answers.FiledLines.{FiledLines}
 use Rattle.register.specs.declared.checking.Scanned.{Scanned}
@@ -30,10 +30,7 @@ use Rattle.register.proofs.TextLaws.{line_cut, lines_none, refusals_size}
 use Rattle.register.proofs.Shown.{file_sound, step_sound}
 use Rattle.register.proofs.Demands.{list_claim}
 
--- a quote's refusal is its line's, and it has four shares
-pub quote_says : (q : Quote) (c : List ℕ) → q ≡ quote_of c → q.refusal ≡ refusal_of c
-quote_says q c e = ap (λ (p : Quote). p.refusal) e ∙ quote_refusal c
-
+-- a quote has four shares
 pub quote_whole : (q : Quote) (c : List ℕ) → q ≡ quote_of c → length q.shares ≡ share_count
 quote_whole q c e = ap (λ (p : Quote). length p.shares) e ∙ (quote_fits c).four
 

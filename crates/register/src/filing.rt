@@ -1,7 +1,7 @@
 // Filing a case: the next line after the used part and no other byte, or a refusal and no byte at all.
 ghost use Rattle.std.specs.Prelude.{◌≡◌};
 ghost use Rattle.split.specs.Refusal.{refusal_of};
-ghost use Rattle.split.specs.Quote.{quote_of};
+ghost use Rattle.split.specs.Quote.{as_quote, quote_of};
 ghost use Rattle.register.specs.Layout.{lent};
 ghost use Rattle.register.specs.File.{filing, number_set, number_from, file_step};
 ghost use Rattle.register.specs.Text.{FiledText, FiledAll};
@@ -11,7 +11,7 @@ use crate::answers::{Filed, FiledLines};
 use crate::checking::Scanned;
 use crate::layout::LINE_LENGTH;
 use crate::{checking, layout, text};
-use split::answers::Quote;
+use split::answers::Granted;
 
 // Where the commencement date stands in a case line.
 const COMMENCEMENT_AT: usize = 16;
@@ -56,9 +56,9 @@ fn enter(
     known: Scanned,
     first_number: u32,
     line: &[u8],
-    quote: Quote,
+    quote: Granted,
 ) -> Filed
-    requires { Known (lent register.old used) known × (refusal_of line.now ≡ 0) × (quote ≡ quote_of line.now) }
+    requires { Known (lent register.old used) known × (refusal_of line.now ≡ 0) × (as_quote quote ≡ quote_of line.now) }
     ensures { (result ≡ (file_step (lent register.old used) (filing first_number line.now)).answer) × (register.new ≡ (file_step (lent register.old used) (filing first_number line.now)).state.bytes) }
 {
     if known.refusal != 0 {
@@ -90,11 +90,10 @@ fn file_known(
     requires { Known (lent register.old used) known }
     ensures { (result ≡ (file_step (lent register.old used) (filing first_number line.now)).answer) × (register.new ≡ (file_step (lent register.old used) (filing first_number line.now)).state.bytes) }
 {
-    let quote = split::quote(line);
-    if quote.refusal != 0 {
-        return refused(quote.refusal);
+    match split::quote(line) {
+        Ok(quote) => enter(register, used, known, first_number, line, quote),
+        Err(refusal) => refused(refusal.number()),
     }
-    enter(register, used, known, first_number, line, quote)
 }
 
 // Files a case: refusals 1 to 13, the lowest, with used length 0; or the used length past the new line. The register is
@@ -103,12 +102,13 @@ fn file_known(
 pub fn file(register: &mut [u8], used: usize, first_number: u32, line: &[u8]) -> Filed
     ensures { (result ≡ (file_step (lent register.old used) (filing first_number line.now)).answer) × (register.new ≡ (file_step (lent register.old used) (filing first_number line.now)).state.bytes) }
 {
-    let quote = split::quote(line);
-    if quote.refusal != 0 {
-        return refused(quote.refusal);
+    match split::quote(line) {
+        Ok(quote) => {
+            let known = checking::scan(register, used);
+            enter(register, used, known, first_number, line, quote)
+        }
+        Err(refusal) => refused(refusal.number()),
     }
-    let known = checking::scan(register, used);
-    enter(register, used, known, first_number, line, quote)
 }
 
 // Files the lines of a text one after the other, each with the same first number, with one check of the register: the used length

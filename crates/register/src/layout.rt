@@ -2,11 +2,12 @@
 ghost use Rattle.std.specs.Prelude.{◌≡◌, map, ℕ, ◌+◌, ◌*◌, ◌%◌, ◌≤◌, ◌<◌, length};
 ghost use Rattle.std.proofs.lemmas.List.Edits.{sets};
 ghost use Rattle.split.specs.Frame.{hex_character, hex_text};
+ghost use Rattle.split.specs.Quote.{as_quote};
 ghost use Rattle.register.specs.Line.{figure_width, share_count, figures_of, header_figures, share_figures, line_text};
 ghost use Rattle.register.specs.Layout.{line_length};
 ghost use Rattle.register.specs.Scan.{byte_digits, figure_bytes, header_bytes, share_bytes, digits_in, figures_bytes, byte_values};
 
-use split::answers::{Quote, Share};
+use split::answers::{Granted, Share};
 
 // The digits of a figure, and where the member's begin in a line.
 pub const FIGURE_WIDTH: usize = 8;
@@ -79,9 +80,9 @@ fn write_bytes(bytes: &mut [u8], at: usize, value: u32)
 }
 
 // Writes the bytes of the header's figures at the start.
-fn write_header(bytes: &mut [u8], number: u32, quote: Quote)
+fn write_header(bytes: &mut [u8], number: u32, quote: Granted)
     requires { header_bytes ≤ length bytes.old }
-    ensures { bytes.new ≡ sets bytes.old 0 (figures_bytes (header_figures (figures_of number quote))) }
+    ensures { bytes.new ≡ sets bytes.old 0 (figures_bytes (header_figures (figures_of number (as_quote quote)))) }
 {
     let total = quote.total;
     write_bytes(bytes, 0, number);
@@ -128,9 +129,9 @@ pub fn write_figure(digits: &mut [u8], value: u32)
 
 // Writes the line of a numbered quote over a whole line's bytes. Only the figures' bytes, half as many as the digits, are written
 // one by one; the compiler takes 16 together where values are made of the bytes, and characters of the values.
-pub fn write_line(line: &mut [u8], number: u32, quote: Quote)
+pub fn write_line(line: &mut [u8], number: u32, quote: Granted)
     requires { (length line.old ≡ line_length) × (length quote.shares ≡ share_count) }
-    ensures { line.new ≡ line_text (figures_of number quote) }
+    ensures { line.new ≡ line_text (figures_of number (as_quote quote)) }
 {
     let mut bytes = [0u8; TEXT_BYTES];
     write_header(&mut bytes, number, quote);

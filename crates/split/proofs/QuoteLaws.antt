@@ -13,7 +13,11 @@ use lib.Seq.{take_at, drop_at}
 use borrow.Author.Tests.{eqb-true}
 use Rattle.split.specs.declared.case.Head.{Head}
 use Rattle.split.specs.declared.case.Pension.{Pension}
+use Rattle.std.specs.Prelude.{Result, Ok, Err}
+use Rattle.refusals.specs.declared.Refusal.{Refusal}
+use Rattle.refusals.specs.Numbers.{refusal_number}
 use Rattle.split.specs.declared.answers.Share.{Share}
+use Rattle.split.specs.declared.answers.Granted.{Granted}
 use Rattle.split.specs.Answers.{Quote}
 use Rattle.split.specs.Case.{head_at, head_of, pensions_at, pensions_of, allowance_used_at, allowance_used_of, case_length}
 use Rattle.split.specs.Frame.{bad_character}
@@ -24,7 +28,7 @@ use Rattle.split.specs.Allowance.{no_allowance, allowed}
 use Rattle.split.specs.Limits.{total, WithinCaps, Best}
 use Rattle.split.specs.Grant.{grant}
 use Rattle.split.specs.Working.{case_quote}
-use Rattle.split.specs.Quote.{remaining_of, second_of, share_of, no_share, shares_of, lumps_granted, granted_quote, refused_quote, quote_of, lumps_in, allowance_in, BestLumps, SharesFit, QuoteFits}
+use Rattle.split.specs.Quote.{remaining_of, second_of, share_of, no_share, shares_of, lumps_granted, granted_quote, refused_quote, answered, quote_of, lumps_in, allowance_in, BestLumps, SharesFit, QuoteFits}
 use Rattle.calendar.proofs.TestsLaws.{lowest_none, by_zero}
 use Rattle.split.proofs.FrameLaws.{number_below}
 use Rattle.split.proofs.CaseLaws.{pensions_counted}
@@ -200,6 +204,12 @@ refused_as s r some e =
 pub quote_refusal : (s : List ℕ) → (quote_of s).refusal ≡ refusal_of s
 unfolding granted_quote refused_quote
 quote_refusal s = by_refusal (λ q. q.refusal ≡ refusal_of s) s (λ e. sym e) (λ ne. refl)
+
+-- and that of an answer which is the quote
+pub answered_refusal : (a : Result Granted Refusal) (s : List ℕ) → answered a ≡ quote_of s → refusal_number a ≡ refusal_of s
+unfolding refused_quote
+answered_refusal (Ok g) s e = ap (λ (q : Quote). q.refusal) e ∙ quote_refusal s
+answered_refusal (Err r) s e = ap (λ (q : Quote). q.refusal) e ∙ quote_refusal s
 
 -- the figures of every quote fit
 pub quote_fits : (s : List ℕ) → QuoteFits (quote_of s)

@@ -7,6 +7,7 @@ use lib.ListN.{length, drop, length-map, length-set}
 use lib.Seq.{length-sets}
 use borrow.Author.Rules.{rules}
 use borrow.Rule.Slice.PartMut.{same_len_mid}
+use Rattle.split.specs.Quote.{as_quote}
 use Rattle.register.specs.Line.{text_length, figures_of}
 use Rattle.register.specs.Layout.{line_length}
 use Rattle.register.proofs.LineLoop.{share_next, shares_end, line_written}
@@ -59,6 +60,6 @@ pub returns : goal.returns
 unfolding text_length figures_of
 returns c =
     let l = c.loop-i in
-    line_written (figures_of c.args.number c.args.quote) _ _ _ _ _ _ c.requires.1 refl c.requires.0
+    line_written (figures_of c.args.number (as_quote c.args.quote)) _ _ _ _ _ _ c.requires.1 refl c.requires.0
     c.write_header.ensures (shares_end _ _ _ l.i (omega arith) l.invariant.2) c.write_values.ensures
     c.spell.ensures

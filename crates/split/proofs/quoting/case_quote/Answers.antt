@@ -1,13 +1,11 @@
 -- `case_quote` is the definition `case_quote` of the pensions that were worked out and the amount that was read behind them: what
 -- each callee asks holds of an accepted case, and their promises compose.
-use Prim.Native.Nat.{ℕ, ◌<◌}
+use Prim.Native.Nat.{ℕ}
 use mathlib.Core.Path.{◌≡◌, refl, sym, ◌∙◌, ap}
 use native.Mathlib.Omega.{arith}
 use lib.ListN.{take}
 use Rattle.std.proofs.lemmas.Result.{err_from_is_err_and}
-use Rattle.refusals.specs.declared.Refusal.{Refusal}
-use Rattle.refusals.specs.Numbers.{number}
-use Rattle.refusals.proofs.NumbersLaws.{number_positive}
+use Rattle.refusals.proofs.NumbersLaws.{number_some}
 use Rattle.split.specs.declared.allowance.Allowance.{Allowance}
 use Rattle.split.specs.Benefits.{benefits_of}
 use Rattle.split.specs.Bytes.{FieldOf}
@@ -32,15 +30,11 @@ work_out-requires c = (
   record { pensions = refl; tops = refl; bottoms = refl; caps = refl; prices = refl; increases = refl },
 )
 
--- a refusal has a number
-numbered : (r : Refusal) → number r ≡ 0 → ⊥
-numbered r e = let some : 0 < number r = number_positive r in omega arith
-
 pub returns-in_err-next : goal.returns-in_err-next
 returns-in_err-next c =
     let p = err_from_is_err_and c.from_residual.result c.from_residual.ensures.1 in
     rw (p.1, p.2)
-    (case_refused c.in_err-next.ensures.0 _ (listed ((goal.at.returns-in_err-next c).Start)).long _ (numbered c.in_err-next.field-0.0) refl)
+    (case_refused c.in_err-next.ensures.0 _ (listed ((goal.at.returns-in_err-next c).Start)).long _ (number_some c.in_err-next.field-0.0) refl)
 
 -- past the `?` the case is accepted
 accepted : (c : In_ok-next) → let worked = c in
