@@ -3,7 +3,8 @@
 #![tactic(auto)]
 
 use calendar::Date;
-use factors::money::YearlyPence;
+use factors::money::{LumpPence, YearlyPence};
+use refusals::number_of;
 use std::io;
 use trivial_commutation::YearlyAmount;
 
@@ -40,14 +41,22 @@ fn early_retirement(rt: &impl Print) -> io::Result<()> {
     println!(rt; " (printed: 193.75)")
 }
 
+// The total lump of a case line, 0 for a refused one.
+fn total_of(line: &[u8]) -> LumpPence {
+    match split::quote(line) {
+        Ok(granted) => granted.total,
+        Err(_) => LumpPence(0),
+    }
+}
+
 // The total lump of a case line, cut down to the pound.
 fn tax_free(rt: &impl Print, line: &[u8]) -> io::Result<()> {
-    let total = split::quote(line).total;
+    let total = total_of(line);
     print!(rt; "{} pounds tax-free at most", total.0 / 100)
 }
 
 fn refusal(rt: &impl Print, line: &[u8]) -> io::Result<()> {
-    let refusal = split::quote(line).refusal;
+    let refusal = number_of(&split::quote(line));
     print!(rt; "refusal {refusal}")
 }
 
@@ -82,7 +91,7 @@ fn overall_limit(rt: &impl Print) -> io::Result<()> {
 
 // The total lump of a case line, to the penny.
 fn total_lump(rt: &impl Print, line: &[u8]) -> io::Result<()> {
-    pounds(rt, split::quote(line).total.0)?;
+    pounds(rt, total_of(line).0)?;
     print!(rt; " pounds")
 }
 
