@@ -118,87 +118,66 @@ pub struct Cursor {
     pub at: usize,
 }
 
+// A field that was taken: its value, and the cursor moved on behind it.
 #[derive(Clone, Copy)]
-pub struct ByteField {
-    pub value: u8,
-    pub next: Cursor,
-}
-
-#[derive(Clone, Copy)]
-pub struct ShortField {
-    pub value: u16,
-    pub next: Cursor,
-}
-
-#[derive(Clone, Copy)]
-pub struct NumberField {
-    pub value: u32,
-    pub next: Cursor,
-}
-
-#[derive(Clone, Copy)]
-pub struct DateField {
-    pub value: Date,
+pub struct Field<T> {
+    pub value: T,
     pub next: Cursor,
 }
 
 impl Cursor {
     // A number of one byte.
-    pub fn byte(self, bytes: &[u8; LONGEST]) -> ByteField
+    pub fn byte(self, bytes: &[u8; LONGEST]) -> Field<u8>
         requires { self.at + 2 ≤ longest_line }
         ensures { Taken bytes.now self.at (number_of 2) 2 result.value result.next.at }
     {
-        let at = self.at;
-        ByteField {
-            value: bytes[at],
-            next: Cursor { at: at + 2 },
+        Field {
+            value: bytes[self.at],
+            next: Cursor { at: self.at + 2 },
         }
     }
 
     // A number of two bytes.
-    pub fn short(self, bytes: &[u8; LONGEST]) -> ShortField
+    pub fn short(self, bytes: &[u8; LONGEST]) -> Field<u16>
         requires { self.at + 4 ≤ longest_line }
         ensures { Taken bytes.now self.at (number_of 4) 4 result.value result.next.at }
     {
         let high = self.byte(bytes);
         let low = high.next.byte(bytes);
-        let next = low.next;
-        ShortField {
+        Field {
             value: high.value as u16 * 256 + low.value as u16,
-            next,
+            next: low.next,
         }
     }
 
     // A number of four bytes.
-    pub fn number(self, bytes: &[u8; LONGEST]) -> NumberField
+    pub fn number(self, bytes: &[u8; LONGEST]) -> Field<u32>
         requires { self.at + 8 ≤ longest_line }
         ensures { Taken bytes.now self.at (number_of 8) 8 result.value result.next.at }
     {
         let high = self.short(bytes);
         let low = high.next.short(bytes);
-        let next = low.next;
-        NumberField {
+        Field {
             value: high.value as u32 * 65536 + low.value as u32,
-            next,
+            next: low.next,
         }
     }
 
     // A date: two bytes of year, one of month, one of day.
-    pub fn date(self, bytes: &[u8; LONGEST]) -> DateField
+    pub fn date(self, bytes: &[u8; LONGEST]) -> Field<Date>
         requires { self.at + 8 ≤ longest_line }
         ensures { Taken bytes.now self.at date_at 8 result.value result.next.at }
     {
         let year = self.short(bytes);
         let month = year.next.byte(bytes);
         let day = month.next.byte(bytes);
-        let next = day.next;
-        DateField {
+        Field {
             value: Date {
                 year: year.value,
                 month: month.value,
                 day: day.value,
             },
-            next,
+            next: day.next,
         }
     }
 }
