@@ -37,10 +37,8 @@ pub fn has_bad_character(line: &[u8]) -> bool
     ensures { result ≡ bad_character line.now }
 {
     let mut bad = false;
-    let mut i = 0;
-    while i < line.len() {
-        bad = bad | (hex_value(line[i]) == 16);
-        i += 1;
+    for character in line {
+        bad |= hex_value(*character) == 16;
     }
     bad
 }
@@ -60,13 +58,10 @@ fn decode_block(line: &[u8], bytes: &mut [u8; LONGEST], at: usize, found: bool) 
     ensures { Decoded line.now bytes.new result (at + block_length) }
 {
     let mut bad = found;
-    let mut i = 0;
-    while i < BLOCK {
-        let place = at + i;
+    for place in at..at + BLOCK {
         let character = line[place];
-        bad = bad | (hex_value(character) == 16);
+        bad |= hex_value(character) == 16;
         bytes[place] = digit_value(character) * 16 + digit_value(line[place + 1]);
-        i += 1;
     }
     bad
 }
@@ -79,10 +74,8 @@ pub fn decode(line: &[u8], bytes: &mut [u8; LONGEST]) -> bool
 {
     let last = line.len() - BLOCK - 1;
     let mut bad = false;
-    let mut at = 0;
-    while at < last {
+    for at in (0..last).step_by(BLOCK) {
         bad = decode_block(line, bytes, at, bad);
-        at += BLOCK;
     }
     bad = decode_block(line, bytes, last, bad);
     bad | (hex_value(line[last + BLOCK]) == 16)
@@ -92,10 +85,10 @@ pub fn decode(line: &[u8], bytes: &mut [u8; LONGEST]) -> bool
 fn digit_at(line: &[u8], at: usize) -> u32
     ensures { (result ≡ digit_at line.now at) × (result < 16) }
 {
-    if at < line.len() {
-        return (hex_value(line[at]) % 16) as u32;
+    match line.get(at) {
+        Some(character) => u32::from(hex_value(*character) % 16),
+        None => 0,
     }
-    0
 }
 
 // The number of this many digits of any bytes, from a place on.
@@ -104,10 +97,8 @@ fn digits_at(line: &[u8], at: usize, count: usize) -> u32
     ensures { result ≡ number_at line.now at count }
 {
     let mut value: u32 = 0;
-    let mut i = 0;
-    while i < count {
+    for i in 0..count {
         value = value * 16 + digit_at(line, at + i);
-        i += 1;
     }
     value
 }
