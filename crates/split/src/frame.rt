@@ -58,7 +58,8 @@ fn decode_block(line: &[u8], bytes: &mut [u8; LONGEST], at: usize, found: bool) 
     ensures { Decoded line.now bytes.new result (at + block_length) }
 {
     let mut bad = found;
-    for place in at..at + BLOCK {
+    for i in 0..BLOCK {
+        let place = at + i;
         let character = line[place];
         bad |= hex_value(character) == 16;
         bytes[place] = digit_value(character) * 16 + digit_value(line[place + 1]);
@@ -74,8 +75,8 @@ pub fn decode(line: &[u8], bytes: &mut [u8; LONGEST]) -> bool
 {
     let last = line.len() - BLOCK - 1;
     let mut bad = false;
-    for at in (0..last).step_by(BLOCK) {
-        bad = decode_block(line, bytes, at, bad);
+    for block in 0..last.div_ceil(BLOCK) {
+        bad = decode_block(line, bytes, block * BLOCK, bad);
     }
     bad = decode_block(line, bytes, last, bad);
     bad | (hex_value(line[last + BLOCK]) == 16)

@@ -1,5 +1,5 @@
--- `decode` goes block by block: the characters before `at` are decoded, after the loop at least those before the last block, and
--- after it all but the last character.
+-- `decode` goes block by block: the characters before the next block are decoded, after the loop at least those before the last
+-- block, and after it all but the last character.
 use Prim.Native.Nat.{ℕ}
 use mathlib.Core.Path.{ap}
 use native.Mathlib.Omega.{arith}
@@ -7,18 +7,12 @@ use lib.Dec.{eqb}
 use Rattle.split.specs.Frame.{is_no_digit}
 use Rattle.split.proofs.BytesLaws.{decoded_none, decoded_again, decoded_all}
 use Rattle.split.proofs.frame.decode.Goals as goal
-use Rattle.split.proofs.frame.decode.Goals.{else-loop-at-test, then-loop-at-test+else-last-at-gt32}
 
-pub loop-at-init : goal.loop-at-init
-loop-at-init c = decoded_none c.requires.2
+pub loop-block-init : goal.loop-block-init
+loop-block-init c = decoded_none c.requires.2
 
 pub decode_block-bad-requires-2 : goal.decode_block-bad-requires-2
-decode_block-bad-requires-2 c =
-    elim c.loop-at-test.branch [
-      | else-loop-at-test w ↦ (omega arith, omega arith, rw (w.bytes-is, w.bad-is) (decoded_again _ (omega arith) c.loop-at.invariant))
-      | then-loop-at-test+else-last-at-gt32 w ↦
-          (omega arith, omega arith, rw (w.bytes-is, w.bad-is) (decoded_again _ (omega arith) w.decode_block-bad.ensures))
-    ]
+decode_block-bad-requires-2 c = (omega arith, omega arith, decoded_again _ (omega arith) c.loop-block.invariant)
 
 pub returns : goal.returns
 unfolding is_no_digit
