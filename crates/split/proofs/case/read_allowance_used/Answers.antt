@@ -4,9 +4,6 @@ use borrow.Author.Tests.{lt-ltb, le-ltb}
 use Rattle.split.specs.Case.{allowance_used_at}
 use Rattle.split.proofs.case.read_allowance_used.Goals as goal
 
-pub number-used-requires : goal.number-used-requires
-number-used-requires c = omega (arith, c.requires.0 c.if-at-characters.true, c.requires.1)
-
 pub returns-then-at-characters : goal.returns-then-at-characters
 unfolding allowance_used_at
 returns-then-at-characters c =
