@@ -112,8 +112,8 @@ pub fn read_allowance_used(bytes: &[u8; LONGEST], at: Cursor, characters: usize)
     ensures { FieldOf bytes.now characters result.0 (λ s. allowance_used_at s at.at characters) }
 {
     if at.at < characters {
-        let used = at.number(bytes);
-        return LumpPence(used.value);
+        LumpPence(at.number(bytes).value)
+    } else {
+        LumpPence(0)
     }
-    LumpPence(0)
 }

@@ -88,7 +88,7 @@ fn digit_at(line: &[u8], at: usize) -> u32
     ensures { (result ≡ digit_at line.now at) × (result < 16) }
 {
     match line.get(at) {
-        Some(character) => u32::from(hex_value(*character) % 16),
+        Some(character) => (hex_value(*character) % 16) as u32,
         None => 0,
     }
 }

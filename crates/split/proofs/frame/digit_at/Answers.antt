@@ -6,7 +6,7 @@ use Rattle.split.proofs.frame.digit_at.Goals as goal
 
 pub returns-in-Some : goal.returns-in-Some
 unfolding digit_at
-returns-in-Some c = (simp (digit_at, c.from.ensures, c.hex_value.ensures, c.in-Some.ensures.lookup.3.1 0), omega arith)
+returns-in-Some c = (simp (digit_at, c.hex_value.ensures, c.in-Some.ensures.lookup.3.1 0), omega arith)
 
 pub returns-in-None : goal.returns-in-None
 unfolding digit_at hex_value
