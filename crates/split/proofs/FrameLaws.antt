@@ -24,29 +24,15 @@ unfolding number_at
 number_below s at zero = omega arith
 number_below s at (suc n) = rw pow-suc (omega (arith, number_below s at n, digit_below s (at + n)))
 
--- of n digits i are read, and make the value
-pub record DigitsRead (s : List ℕ) (at n value i : ℕ) : Type 0 where
-  pub within : i ≤ n
-  pub number : value ≡ number_at s at i
+-- a number of fewer than eight digits has room for one more in 32 bits
+pub number_room : (s : List ℕ) (at i : ℕ) → i < 8 → number_at s at i < 268435456
+number_room s at i h =
+    lt_of_lt_of_le (number_below s at i) (pow-le-pow_right {n = 16} (omega arith) {j = 7} (omega arith))
 
-pub read_none : {s : List ℕ} {at n : ℕ} → DigitsRead s at n 0 0
-unfolding number_at
-read_none = record { within = omega arith; number = refl }
-
--- before the eighth there is room for one more in 32 bits
-pub read_room : {s : List ℕ} {at n value i : ℕ} → DigitsRead s at n value i → i < n → n ≤ 8 → value < 268435456
-read_room {s} {at} {i = i} read h eight =
-    rw read.number
-    (lt_of_lt_of_le (number_below s at i) (pow-le-pow_right {n = 16} (omega arith) {j = 7} (omega arith)))
-
--- one more digit
-pub read_more : {s : List ℕ} {at n value i d : ℕ} → DigitsRead s at n value i → i < n → d ≡ digit_at s (at + i)
-    → DigitsRead s at n (value * 16 + d) (i + 1)
-unfolding number_at
-read_more read h e = record { within = omega arith; number = rw (add-one, read.number, e) }
-
-pub read_all : {s : List ℕ} {at n value i : ℕ} → DigitsRead s at n value i → n ≤ i → value ≡ number_at s at n
-read_all {n = n} {i = i} read h = let all : i ≡ n = omega arith in rw all at read.number
+-- a value of 16 tells that a character is no digit
+pub no_digit_by : (c : ℕ) {v : ℕ} → v ≡ hex_value c → eqb v 16 ≡ is_no_digit c
+unfolding is_no_digit
+no_digit_by c e = rw e
 
 -- a digit's value by arithmetic: antt computes it at each of the 256 characters
 pub digit_worth : (c : ℕ) → c < 256 → is_no_digit c ≡ false → (c % 16 + 9 * (c / 64)) % 16 ≡ hex_value c % 16

@@ -11,6 +11,7 @@ use native.Mathlib.Omega.{arith}
 use lib.ListN.{length, get_or, take, drop, set, take-append-drop, length-append, length-take, length-drop, length-set, drop_of_length-le}
 use lib.Seq.{take_at, length-take-le, take-suc, drop-cons, append_snoc, set_at, get_or-append-add, get_or-drop, take_all, take-length, drop-length, drop-drop}
 use borrow.Author.Tests.{lt-ltb}
+use Rattle.std.specs.List.{copy_within}
 use Rattle.calendar.proofs.TestsLaws.{any_append}
 use Rattle.split.specs.Frame.{is_no_digit, bad_character, hex_value}
 use Rattle.split.specs.Case.{head_of, longest_line}
@@ -111,23 +112,6 @@ pub kept_stands : (s rest text : List ℕ) (count : ℕ) → count ≡ length (k
 kept_stands s rest text count counted stands more =
     rw (stands, take_at (kept_line s) rest count (sym counted)) (kept_quoted s more)
 
--- one more character is moved to the start: it is read at or behind the place it is written to, so it is as it was
-pub moved_more : (old now : List ℕ) (from i : ℕ) → from + i < length old → now ≡ take i (drop from old) ++ drop i old
-    → set now i (get_or now (from + i) 0) ≡ take (i + 1) (drop from old) ++ drop (i + 1) old
-moved_more old now from i h laid =
-    rw (read, laid, add-one, take-suc (drop from old) i 0 (simp length-drop (omega arith)), drop-cons old i 0 (omega arith))
-    (set_at (take i (drop from old)) (get_or old i 0) (drop (suc i) old) (get_or (drop from old) i 0) i moved
-    ∙ sym (append_snoc (take i (drop from old)) (get_or (drop from old) i 0) (drop (suc i) old)))
-  where
-    moved : length (take i (drop from old)) ≡ i
-    moved = length-take-le i (drop from old) (simp length-drop (omega arith))
-
-    read : get_or now (from + i) 0 ≡ get_or (drop from old) i 0
-    read =
-        rw (laid, add_comm from i)
-        (rw moved at (get_or-append-add (take i (drop from old)) (drop i old) from 0)
-        ∙ get_or-drop i old from 0 ∙ rw (add_comm i from) (sym (get_or-drop from old i 0)))
-
 -- as many as there are, of more
 take_min : (k : ℕ) (l : List ℕ) → take k l ≡ take (min k (length l)) l
 take_min k l =
@@ -146,7 +130,12 @@ drop_min k l =
 -- What the code keeps of what a text has from a place on, or from its end where the place is behind it: so many characters are
 -- moved to the text's start, and the first is made bad where one of the others is.
 module _ (text moved : List ℕ) (from start kept : ℕ) (place : start ≡ min from (length text)) (count : kept ≡ min kept_length (length text - start))
-    (laid : moved ≡ take kept (drop start text) ++ drop kept text) where
+    (copied : moved ≡ copy_within text start (start + kept) 0) where
+  laid : moved ≡ take kept (drop start text) ++ drop kept text
+  laid =
+      let moves : start + kept - start ≡ kept = omega arith in
+      let rest : 0 + kept ≡ kept = omega arith in copied ∙ rw (moves, rest)
+
   line : drop from text ≡ drop start text
   line = drop_min from text ∙ ap (λ (k : ℕ). drop k text) (sym place)
 

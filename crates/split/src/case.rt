@@ -3,7 +3,7 @@ ghost use Rattle.std.specs.Prelude.{◌+◌, ◌≤◌, ◌<◌};
 ghost use Rattle.split.specs.Case.{head_at, service_at, terms_at, pension_at, allowance_used_at, head_length, pension_length, allowance_used_length, longest_line};
 ghost use Rattle.split.specs.Bytes.{FieldOf, Taken};
 
-use crate::frame::{Cursor, LONGEST};
+use crate::frame::{Cursor, Field, LONGEST};
 use calendar::Date;
 use factors::effective::FactorTerms;
 use factors::money::{LumpPence, YearlyPence};
@@ -31,32 +31,8 @@ pub struct Pension {
     pub terms: FactorTerms,
 }
 
-#[derive(Clone, Copy)]
-pub struct HeadField {
-    pub value: Head,
-    pub next: Cursor,
-}
-
-#[derive(Clone, Copy)]
-struct ServiceField {
-    pub value: Service,
-    pub next: Cursor,
-}
-
-#[derive(Clone, Copy)]
-struct TermsField {
-    pub value: FactorTerms,
-    pub next: Cursor,
-}
-
-#[derive(Clone, Copy)]
-pub struct PensionField {
-    pub value: Pension,
-    pub next: Cursor,
-}
-
 // The head, which a line begins with.
-pub fn read_head(bytes: &[u8; LONGEST], at: Cursor) -> HeadField
+pub fn read_head(bytes: &[u8; LONGEST], at: Cursor) -> Field<Head>
     requires { at.at + head_length ≤ longest_line }
     ensures { Taken bytes.now at.at head_at head_length result.value result.next.at }
 {
@@ -64,39 +40,33 @@ pub fn read_head(bytes: &[u8; LONGEST], at: Cursor) -> HeadField
     let birth = member.next.date(bytes);
     let commencement = birth.next.date(bytes);
     let count = commencement.next.byte(bytes);
-    let next = count.next;
-    let born = birth.value;
-    let commences = commencement.value;
-    HeadField {
+    Field {
         value: Head {
             member: member.value,
-            birth: born,
-            commencement: commences,
+            birth: birth.value,
+            commencement: commencement.value,
             count: count.value,
         },
-        next,
+        next: count.next,
     }
 }
 
-fn read_service(bytes: &[u8; LONGEST], at: Cursor) -> ServiceField
+fn read_service(bytes: &[u8; LONGEST], at: Cursor) -> Field<Service>
     requires { at.at + 16 ≤ longest_line }
     ensures { Taken bytes.now at.at service_at 16 result.value result.next.at }
 {
     let start = at.date(bytes);
     let end = start.next.date(bytes);
-    let next = end.next;
-    let first = start.value;
-    let last = end.value;
-    ServiceField {
+    Field {
         value: Service {
-            start: first,
-            end: last,
+            start: start.value,
+            end: end.value,
         },
-        next,
+        next: end.next,
     }
 }
 
-fn read_terms(bytes: &[u8; LONGEST], at: Cursor) -> TermsField
+fn read_terms(bytes: &[u8; LONGEST], at: Cursor) -> Field<FactorTerms>
     requires { at.at + 16 ≤ longest_line }
     ensures { Taken bytes.now at.at terms_at 16 result.value result.next.at }
 {
@@ -104,19 +74,18 @@ fn read_terms(bytes: &[u8; LONGEST], at: Cursor) -> TermsField
     let f2 = f1.next.short(bytes);
     let f3 = f2.next.short(bytes);
     let increase = f3.next.short(bytes);
-    let next = increase.next;
-    TermsField {
+    Field {
         value: FactorTerms {
             f1: f1.value,
             f2: f2.value,
             f3: f3.value,
             increase: increase.value,
         },
-        next,
+        next: increase.next,
     }
 }
 
-pub fn read_pension(bytes: &[u8; LONGEST], at: Cursor) -> PensionField
+pub fn read_pension(bytes: &[u8; LONGEST], at: Cursor) -> Field<Pension>
     requires { at.at + pension_length ≤ longest_line }
     ensures { Taken bytes.now at.at pension_at pension_length result.value result.next.at }
 {
@@ -125,18 +94,15 @@ pub fn read_pension(bytes: &[u8; LONGEST], at: Cursor) -> PensionField
     let service = read_service(bytes, stated.next);
     let lift = service.next.byte(bytes);
     let terms = read_terms(bytes, lift.next);
-    let next = terms.next;
-    let served = service.value;
-    let given = terms.value;
-    PensionField {
+    Field {
         value: Pension {
             kind: kind.value,
             stated: YearlyPence(stated.value),
-            service: served,
+            service: service.value,
             lift: lift.value,
-            terms: given,
+            terms: terms.value,
         },
-        next,
+        next: terms.next,
     }
 }
 
@@ -146,8 +112,8 @@ pub fn read_allowance_used(bytes: &[u8; LONGEST], at: Cursor, characters: usize)
     ensures { FieldOf bytes.now characters result.0 (λ s. allowance_used_at s at.at characters) }
 {
     if at.at < characters {
-        let used = at.number(bytes);
-        return LumpPence(used.value);
+        LumpPence(at.number(bytes).value)
+    } else {
+        LumpPence(0)
     }
-    LumpPence(0)
 }

@@ -19,15 +19,16 @@ pub const LONGEST: usize = HEAD_LENGTH + 4 * PENSION_LENGTH + ALLOWANCE_USED_LEN
 // How many characters are decoded together.
 pub const BLOCK: usize = 32;
 
-// The value of a character: 0-9 and A-F, and 16 for any other.
+// The value of a character: 0-9 and A-F, and 16 for any other. The definition says 16, so it is no `Option`, and a `match` on
+// ranges of characters makes `has_bad_character` 1.8 times as slow and `decode` 1.3 times.
 pub fn hex_value(character: u8) -> u8
     ensures { result ≡ hex_value character }
 {
-    if (48 <= character) & (character <= 57) {
-        return character - 48;
+    if (b'0' <= character) & (character <= b'9') {
+        return character - b'0';
     }
-    if (65 <= character) & (character <= 70) {
-        return character - 55;
+    if (b'A' <= character) & (character <= b'F') {
+        return character - b'A' + 10;
     }
     16
 }
@@ -37,10 +38,8 @@ pub fn has_bad_character(line: &[u8]) -> bool
     ensures { result ≡ bad_character line.now }
 {
     let mut bad = false;
-    let mut i = 0;
-    while i < line.len() {
-        bad = bad | (hex_value(line[i]) == 16);
-        i += 1;
+    for character in line {
+        bad |= hex_value(*character) == 16;
     }
     bad
 }
@@ -60,13 +59,11 @@ fn decode_block(line: &[u8], bytes: &mut [u8; LONGEST], at: usize, found: bool) 
     ensures { Decoded line.now bytes.new result (at + block_length) }
 {
     let mut bad = found;
-    let mut i = 0;
-    while i < BLOCK {
+    for i in 0..BLOCK {
         let place = at + i;
         let character = line[place];
-        bad = bad | (hex_value(character) == 16);
+        bad |= hex_value(character) == 16;
         bytes[place] = digit_value(character) * 16 + digit_value(line[place + 1]);
-        i += 1;
     }
     bad
 }
@@ -79,10 +76,8 @@ pub fn decode(line: &[u8], bytes: &mut [u8; LONGEST]) -> bool
 {
     let last = line.len() - BLOCK - 1;
     let mut bad = false;
-    let mut at = 0;
-    while at < last {
-        bad = decode_block(line, bytes, at, bad);
-        at += BLOCK;
+    for block in 0..last.div_ceil(BLOCK) {
+        bad = decode_block(line, bytes, block * BLOCK, bad);
     }
     bad = decode_block(line, bytes, last, bad);
     bad | (hex_value(line[last + BLOCK]) == 16)
@@ -92,10 +87,10 @@ pub fn decode(line: &[u8], bytes: &mut [u8; LONGEST]) -> bool
 fn digit_at(line: &[u8], at: usize) -> u32
     ensures { (result ≡ digit_at line.now at) × (result < 16) }
 {
-    if at < line.len() {
-        return (hex_value(line[at]) % 16) as u32;
+    match line.get(at) {
+        Some(character) => (hex_value(*character) % 16) as u32,
+        None => 0,
     }
-    0
 }
 
 // The number of this many digits of any bytes, from a place on.
@@ -104,10 +99,8 @@ fn digits_at(line: &[u8], at: usize, count: usize) -> u32
     ensures { result ≡ number_at line.now at count }
 {
     let mut value: u32 = 0;
-    let mut i = 0;
-    while i < count {
+    for i in 0..count {
         value = value * 16 + digit_at(line, at + i);
-        i += 1;
     }
     value
 }
@@ -118,87 +111,66 @@ pub struct Cursor {
     pub at: usize,
 }
 
+// A field that was taken: its value, and the cursor moved on behind it.
 #[derive(Clone, Copy)]
-pub struct ByteField {
-    pub value: u8,
-    pub next: Cursor,
-}
-
-#[derive(Clone, Copy)]
-pub struct ShortField {
-    pub value: u16,
-    pub next: Cursor,
-}
-
-#[derive(Clone, Copy)]
-pub struct NumberField {
-    pub value: u32,
-    pub next: Cursor,
-}
-
-#[derive(Clone, Copy)]
-pub struct DateField {
-    pub value: Date,
+pub struct Field<T> {
+    pub value: T,
     pub next: Cursor,
 }
 
 impl Cursor {
     // A number of one byte.
-    pub fn byte(self, bytes: &[u8; LONGEST]) -> ByteField
+    pub fn byte(self, bytes: &[u8; LONGEST]) -> Field<u8>
         requires { self.at + 2 ≤ longest_line }
         ensures { Taken bytes.now self.at (number_of 2) 2 result.value result.next.at }
     {
-        let at = self.at;
-        ByteField {
-            value: bytes[at],
-            next: Cursor { at: at + 2 },
+        Field {
+            value: bytes[self.at],
+            next: Cursor { at: self.at + 2 },
         }
     }
 
     // A number of two bytes.
-    pub fn short(self, bytes: &[u8; LONGEST]) -> ShortField
+    pub fn short(self, bytes: &[u8; LONGEST]) -> Field<u16>
         requires { self.at + 4 ≤ longest_line }
         ensures { Taken bytes.now self.at (number_of 4) 4 result.value result.next.at }
     {
         let high = self.byte(bytes);
         let low = high.next.byte(bytes);
-        let next = low.next;
-        ShortField {
+        Field {
             value: high.value as u16 * 256 + low.value as u16,
-            next,
+            next: low.next,
         }
     }
 
     // A number of four bytes.
-    pub fn number(self, bytes: &[u8; LONGEST]) -> NumberField
+    pub fn number(self, bytes: &[u8; LONGEST]) -> Field<u32>
         requires { self.at + 8 ≤ longest_line }
         ensures { Taken bytes.now self.at (number_of 8) 8 result.value result.next.at }
     {
         let high = self.short(bytes);
         let low = high.next.short(bytes);
-        let next = low.next;
-        NumberField {
+        Field {
             value: high.value as u32 * 65536 + low.value as u32,
-            next,
+            next: low.next,
         }
     }
 
     // A date: two bytes of year, one of month, one of day.
-    pub fn date(self, bytes: &[u8; LONGEST]) -> DateField
+    pub fn date(self, bytes: &[u8; LONGEST]) -> Field<Date>
         requires { self.at + 8 ≤ longest_line }
         ensures { Taken bytes.now self.at date_at 8 result.value result.next.at }
     {
         let year = self.short(bytes);
         let month = year.next.byte(bytes);
         let day = month.next.byte(bytes);
-        let next = day.next;
-        DateField {
+        Field {
             value: Date {
                 year: year.value,
                 month: month.value,
                 day: day.value,
             },
-            next,
+            next: day.next,
         }
     }
 }

@@ -7,25 +7,6 @@ use crate::frame;
 // One character more than the longest case line has: a longer line is refused by its characters and its length alone.
 const KEPT: usize = frame::LONGEST + 1;
 
-// The lower of two counts.
-fn least(first: usize, second: usize) -> usize
-    ensures { result ≡ min first second }
-{
-    if second < first { second } else { first }
-}
-
-// Moves characters of a text, from a place on, to its start.
-fn move_to_start(text: &mut [u8], from: usize, count: usize)
-    requires { from + count ≤ length text.old }
-    ensures { text.new ≡ take count (drop from text.old) ++ drop count text.old }
-{
-    let mut i = 0;
-    while i < count {
-        text[i] = text[from + i];
-        i += 1;
-    }
-}
-
 // Keeps what a text has from a place on, the beginning of a line, at the text's start, and says how many characters are kept.
 // However the line goes on, what is kept and the rest are quoted as the whole line is.
 pub fn keep_line(text: &mut [u8], from: usize) -> usize
@@ -34,13 +15,12 @@ pub fn keep_line(text: &mut [u8], from: usize) -> usize
     ensures quoted { QuotedAs (take result text.new) (drop from text.old) }
 {
     let end = text.len();
-    let start = least(from, end);
-    let kept = least(KEPT, end - start);
+    let start = from.min(end);
+    let kept = KEPT.min(end - start);
     let bad = frame::has_bad_character(&text[start + kept..end]);
-    move_to_start(text, start, kept);
-    if !bad {
-        return kept;
+    text.copy_within(start..start + kept, 0);
+    if bad {
+        text[0] = 0;
     }
-    text[0] = 0;
     kept
 }

@@ -4,17 +4,14 @@ use borrow.Author.Tests.{lt-ltb, le-ltb}
 use Rattle.split.specs.Case.{allowance_used_at}
 use Rattle.split.proofs.case.read_allowance_used.Goals as goal
 
-pub number-used-requires : goal.number-used-requires
-number-used-requires c = omega (arith, c.requires.0 c.if-at-characters.true, c.requires.1)
-
 pub returns-then-at-characters : goal.returns-then-at-characters
 unfolding allowance_used_at
 returns-then-at-characters c =
     λ s bytes within.
     rw (lt-ltb c.args.at.at c.args.characters c.if-at-characters.true)
-    (c.number-used.ensures.value s bytes (omega (arith, c.number-used.ensures.next, c.requires.0 c.if-at-characters.true)))
+    (c.number.ensures.value s bytes (omega (arith, c.number.ensures.next, c.requires.0 c.if-at-characters.true)))
 
-pub returns : goal.returns
+pub returns-else-at-characters : goal.returns-else-at-characters
 unfolding allowance_used_at
-returns c =
+returns-else-at-characters c =
     λ s bytes within. rw (le-ltb c.args.at.at c.args.characters c.if-at-characters.false)

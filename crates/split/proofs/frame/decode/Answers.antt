@@ -1,26 +1,15 @@
--- `decode` goes block by block: the first `at` characters of the line are decoded, after the loop at least those before the
--- last block, and after it all but the last character.
-use Prim.Native.Nat.{ℕ}
-use mathlib.Core.Path.{ap}
+-- `decode` goes block by block: the characters before the next block are decoded, after the loop at least those before the last
+-- block, and after it all but the last character.
 use native.Mathlib.Omega.{arith}
-use lib.Dec.{eqb}
-use Rattle.split.specs.Frame.{is_no_digit}
 use Rattle.split.proofs.BytesLaws.{decoded_none, decoded_again, decoded_all}
+use Rattle.split.proofs.FrameLaws.{no_digit_by}
 use Rattle.split.proofs.frame.decode.Goals as goal
 
-pub returns : goal.returns
-unfolding is_no_digit
-returns c =
-    decoded_all c.decode_block-bad-2.ensures (omega arith) (ap (λ (v : ℕ). eqb v 16) c.hex_value.ensures)
-
-pub loop-at-init : goal.loop-at-init
-loop-at-init c = (omega arith, decoded_none c.requires.2)
-
-pub decode_block-bad-requires : goal.decode_block-bad-requires
-decode_block-bad-requires c = (omega arith, omega arith, c.loop-at.invariant.1)
-
-pub loop-at-preserved : goal.loop-at-preserved
-loop-at-preserved c = (omega arith, c.decode_block-bad.ensures)
+pub loop-block-init : goal.loop-block-init
+loop-block-init c = decoded_none c.requires.2
 
 pub decode_block-bad-requires-2 : goal.decode_block-bad-requires-2
-decode_block-bad-requires-2 c = (omega arith, omega arith, decoded_again _ (omega arith) c.loop-at.invariant.1)
+decode_block-bad-requires-2 c = (omega arith, omega arith, decoded_again _ (omega arith) c.loop-block.invariant)
+
+pub returns : goal.returns
+returns c = decoded_all c.decode_block-bad-2.ensures (omega arith) (no_digit_by _ c.hex_value.ensures)

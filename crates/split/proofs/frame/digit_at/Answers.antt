@@ -4,10 +4,10 @@ use lib.ListN.{get_or-eq_default}
 use Rattle.split.specs.Frame.{digit_at, hex_value}
 use Rattle.split.proofs.frame.digit_at.Goals as goal
 
-pub returns-then-at-line : goal.returns-then-at-line
+pub returns-in-Some : goal.returns-in-Some
 unfolding digit_at
-returns-then-at-line c = (simp (digit_at, c.hex_value.ensures), omega arith)
+returns-in-Some c = (simp (digit_at, c.hex_value.ensures, c.in-Some.ensures.lookup.3.1 0), omega arith)
 
-pub returns : goal.returns
+pub returns-in-None : goal.returns-in-None
 unfolding digit_at hex_value
-returns c = (simp (digit_at, get_or-eq_default c.args.line.now 0 {n = c.args.at} c.if-at-line.false), omega arith)
+returns-in-None c = (simp (digit_at, get_or-eq_default c.args.line.now 0 {n = c.args.at} c.in-None.ensures.lookup.3), omega arith)

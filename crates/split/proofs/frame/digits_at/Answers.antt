@@ -1,24 +1,21 @@
 -- `digits_at` is the definition `number_at`, a digit at a time; eight digits fit its type.
-use Prim.Native.Nat.{◌<◌}
+use mathlib.Core.Path.{refl}
+use native.Mathlib.Numerals.{add-one}
 use native.Mathlib.Omega.{arith}
-use Rattle.split.proofs.FrameLaws.{read_none, read_room, read_more, read_all}
+use Rattle.split.specs.Frame.{number_at}
+use Rattle.split.proofs.FrameLaws.{number_room}
 use Rattle.split.proofs.frame.digits_at.Goals as goal
-use Rattle.split.proofs.frame.digits_at.Goals.{In-loop-i}
-
-room : (c : In-loop-i) → c.loop-i.value < 268435456
-room c = read_room c.loop-i.invariant c.loop-i-test.true c.requires.1
 
 pub loop-i-init : goal.loop-i-init
-loop-i-init c = read_none
+unfolding number_at
+loop-i-init c = refl
 
 pub overflow_mul-value : goal.overflow_mul-value
-overflow_mul-value c = omega (arith, room ((goal.at.overflow_mul-value c).In-loop-i))
+overflow_mul-value c = omega (arith, c.loop-i.invariant, number_room c.args.line.now c.args.at c.loop-i.i (omega arith))
 
 pub overflow_add-value : goal.overflow_add-value
-overflow_add-value c = omega (arith, room ((goal.at.overflow_add-value c).In-loop-i))
+overflow_add-value c = omega (arith, c.loop-i.invariant, number_room c.args.line.now c.args.at c.loop-i.i (omega arith))
 
 pub loop-i-preserved : goal.loop-i-preserved
-loop-i-preserved c = read_more c.loop-i.invariant c.loop-i-test.true c.digit_at.ensures.0
-
-pub returns : goal.returns
-returns c = read_all c.loop-i.invariant c.loop-i-test.false
+unfolding number_at
+loop-i-preserved c = rw (add-one, c.loop-i.invariant, c.digit_at.ensures.0)

@@ -10,14 +10,10 @@ returns-then-character c = simp (hex_value, c.if-character.true)
 
 pub returns-then-character-2 : goal.returns-then-character-2
 unfolding hex_value
-returns-then-character-2 c = simp (hex_value, c.if-character.false, c.if-character-2.true)
+returns-then-character-2 c =
+    simp (hex_value, c.if-character.false, c.if-character-2.true)
+    (omega (arith, within_bounds 65 70 c.args.character c.if-character-2.true))
 
 pub returns : goal.returns
 unfolding hex_value
 returns c = simp (hex_value, c.if-character.false, c.if-character-2.false)
-
-pub overflow_sub-result : goal.overflow_sub-result
-overflow_sub-result c = omega (arith, within_bounds 48 57 c.args.character c.if-character.true)
-
-pub overflow_sub-result-then-character-2 : goal.overflow_sub-result-then-character-2
-overflow_sub-result-then-character-2 c = omega (arith, within_bounds 65 70 c.args.character c.if-character-2.true)
