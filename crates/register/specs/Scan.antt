@@ -45,10 +45,6 @@ placed_by y used place =
 abbrev pub placed : ℕ → ℕ → Located
 placed used place = placed_by line_layout used place
 
--- some character is LF
-unfoldable pub has_newline : List ℕ → Bool
-has_newline s = any (λ c. eqb c 10) s
-
 -- the end of the line that begins at a place: no newline before it, and a newline or the text's end at it
 pub record LineEnd (text : List ℕ) (at end : ℕ) : Type 0 where
   pub after : at ≤ end
