@@ -16,7 +16,7 @@ use Rattle.split.proofs.QuoteLaws.{quote_fits}
 use Rattle.register.specs.Line.{figure_width, number_place, member_place, total_place, header_length, share_length, share_count, text_length, Figures, figures_of, figures_for, header_figures, share_figures, shares_figures, line_figures, figures_text, line_text, line_for, number_in, member_in, total_in, share_at, shares_at, shares_in, figures_in, lumps_in_line}
 
 -- figures one after the other: their text's length, that it is all digits, and that it is read back
-pub figures_length : (xs : List ℕ) → length (figures_text xs) ≡ length xs * figure_width
+figures_length : (xs : List ℕ) → length (figures_text xs) ≡ length xs * figure_width
 unfolding figures_text
 figures_length [] = omega arith
 figures_length (x ∷ xs) = simp (length-append, hex_length, figures_length xs) (omega arith)
@@ -108,7 +108,7 @@ module _ (f : Figures) (four : length f.shares ≡ share_count) where
   unfolding text_length
   before_length = figures_length (line_figures f) ∙ simp (shares_count f.shares, four)
 
-  pub line_text-length : length (line_text f) ≡ text_length + 1
+  line_text-length : length (line_text f) ≡ text_length + 1
   unfolding line_text
   line_text-length = rw (length-append (figures_text (line_figures f)) (10 ∷ []), before_length)
 

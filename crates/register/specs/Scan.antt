@@ -1,13 +1,15 @@
 -- Definitions for the contracts of private functions: what the code knows of a register that it went along, of a line that it
 -- looked for, and of a line's end that it looked for, and what it makes on the way to a line. Nothing here has to be believed.
 -- Assumes nothing.
-use Rattle.std.specs.Prelude.{ℕ, zero, suc, ◌+◌, ◌*◌, ◌/◌, ◌%◌, ◌≤◌, ◌<◌, Bool, true, false, cond, List, [], ◌∷◌, ◌++◌, ◌≡◌, ltb, eqb, length, get_or}
+use Rattle.std.specs.Prelude.{ℕ, ◌+◌, ◌*◌, ◌/◌, ◌%◌, ◌≤◌, ◌<◌, Bool, true, false, cond, List, [], ◌∷◌, ◌≡◌, ltb, eqb, map, length, get_or}
+use Rattle.std.specs.Int.{w32, to_be_bytes}
+use Rattle.std.specs.List.{flat_map}
 use Rattle.calendar.specs.Tests.{any}
-use Rattle.split.specs.Frame.{is_no_digit}
+use Rattle.split.specs.Frame.{is_no_digit, hex_character}
 use Rattle.register.specs.declared.answers.Checked.{Checked}
 use Rattle.register.specs.declared.answers.Located.{Located}
 use Rattle.register.specs.declared.checking.Scanned.{Scanned}
-use Rattle.register.specs.Line.{figure_width, header_length, share_length}
+use Rattle.register.specs.Line.{figure_width}
 use Rattle.register.specs.Layout.{Register, Layout, length_of, used_lines, line_layout}
 use Rattle.register.specs.Check.{next_number, check_lines, check_of}
 use Rattle.register.specs.Find.{last_place}
@@ -45,10 +47,6 @@ placed_by y used place =
 abbrev pub placed : ℕ → ℕ → Located
 placed used place = placed_by line_layout used place
 
--- some character is LF
-unfoldable pub has_newline : List ℕ → Bool
-has_newline s = any (λ c. eqb c 10) s
-
 -- the end of the line that begins at a place: no newline before it, and a newline or the text's end at it
 pub record LineEnd (text : List ℕ) (at end : ℕ) : Type 0 where
   pub after : at ≤ end
@@ -56,30 +54,21 @@ pub record LineEnd (text : List ℕ) (at end : ℕ) : Type 0 where
   pub unbroken : (j : ℕ) → at ≤ j → j < end → eqb (get_or text j 0) 10 ≡ false
   pub ended : end < length text → get_or text end 0 ≡ 10
 
--- the last n digits of a number in a base, highest first
-unfoldable pub digits_in : ℕ → ℕ → ℕ → List ℕ
-digits_in base zero x = []
-digits_in base (suc n) x = digits_in base n (x / base) ++ (x % base ∷ [])
-
--- the digits of a byte, and the bytes of a figure, of the header and of a share
+-- the digits of a byte, and the bytes of a figure
 abbrev pub byte_digits : ℕ
 byte_digits = 2
 
 abbrev pub figure_bytes : ℕ
 figure_bytes = figure_width / byte_digits
 
-abbrev pub header_bytes : ℕ
-header_bytes = header_length / byte_digits
-
-abbrev pub share_bytes : ℕ
-share_bytes = share_length / byte_digits
-
--- the bytes of figures one after the other
-unfoldable pub figures_bytes : List ℕ → List ℕ
-figures_bytes [] = []
-figures_bytes (x ∷ xs) = digits_in 256 figure_bytes x ++ figures_bytes xs
+-- the bytes of figures one after the other, the highest of each first
+abbrev pub figures_bytes : List ℕ → List ℕ
+figures_bytes = flat_map (to_be_bytes w32)
 
 -- the values of the two digits of each byte
-unfoldable pub byte_values : List ℕ → List ℕ
-byte_values [] = []
-byte_values (b ∷ bs) = b / 16 ∷ b % 16 ∷ byte_values bs
+abbrev pub byte_values : List ℕ → List ℕ
+byte_values = flat_map (λ (b : ℕ). b / 16 ∷ b % 16 ∷ [])
+
+-- the characters that are made of the values of digits; the remainder changes none
+abbrev pub spelled : List ℕ → List ℕ
+spelled = map (λ (d : ℕ). hex_character (d % 16))

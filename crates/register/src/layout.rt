@@ -1,13 +1,12 @@
 // A register line: the header's figures, the figures of each share, and a newline.
-ghost use Rattle.std.specs.Prelude.{◌≡◌, map, ℕ, ◌+◌, ◌*◌, ◌%◌, ◌≤◌, ◌<◌, length};
-ghost use Rattle.std.proofs.lemmas.List.Edits.{sets};
+ghost use Rattle.std.specs.Prelude.{◌≡◌, ◌*◌, ◌<◌, length};
 ghost use Rattle.split.specs.Frame.{hex_character, hex_text};
 ghost use Rattle.split.specs.Quote.{as_quote};
-ghost use Rattle.register.specs.Line.{figure_width, share_count, figures_of, header_figures, share_figures, line_text};
+ghost use Rattle.register.specs.Line.{figure_width, share_count, figures_of, line_text};
 ghost use Rattle.register.specs.Layout.{line_length};
-ghost use Rattle.register.specs.Scan.{byte_digits, figure_bytes, header_bytes, share_bytes, digits_in, figures_bytes, byte_values};
+ghost use Rattle.register.specs.Scan.{byte_digits, figure_bytes, figures_bytes, byte_values, spelled};
 
-use split::answers::{Granted, Share};
+use split::answers::Granted;
 
 // The digits of a figure, and where the member's begin in a line.
 pub const FIGURE_WIDTH: usize = 8;
@@ -19,19 +18,10 @@ const BYTE_DIGITS: usize = 2;
 
 const FIGURE_BYTES: usize = FIGURE_WIDTH / BYTE_DIGITS;
 
-// Where the bytes of the header's figures begin behind the number's, and how many it has.
-const MEMBER_BYTES_AT: usize = FIGURE_BYTES;
+// The bytes of the header and of a share, which have three figures each.
+const HEADER_BYTES: usize = 3 * FIGURE_BYTES;
 
-const TOTAL_BYTES_AT: usize = MEMBER_BYTES_AT + FIGURE_BYTES;
-
-const HEADER_BYTES: usize = TOTAL_BYTES_AT + FIGURE_BYTES;
-
-// Where the bytes of a share's figures begin behind its lump's, and how many it has.
-const REMAINING_BYTES_AT: usize = FIGURE_BYTES;
-
-const SECOND_BYTES_AT: usize = REMAINING_BYTES_AT + FIGURE_BYTES;
-
-const SHARE_BYTES: usize = SECOND_BYTES_AT + FIGURE_BYTES;
+const SHARE_BYTES: usize = 3 * FIGURE_BYTES;
 
 // The shares of a line, the bytes of its figures, its characters before the newline, and with it.
 const SHARES: usize = 4;
@@ -53,67 +43,45 @@ fn hex_character(digit: u8) -> u8
     55 + digit
 }
 
-// Makes characters of the values of digits, for a whole line at once, since the compiler then takes 16 together. The remainder
-// changes no digit, and nothing need be known of the bytes.
+// Writes the bytes of figures one after the other, the highest of each first.
+fn write_figures(bytes: &mut [u8], figures: &[u32])
+    requires { length bytes.old ≡ figure_bytes * length figures.now }
+    ensures { bytes.new ≡ figures_bytes figures.now }
+{
+    for (i, figure) in figures.iter().enumerate() {
+        let at = FIGURE_BYTES * i;
+        bytes[at..at + FIGURE_BYTES].copy_from_slice(&figure.to_be_bytes());
+    }
+}
+
+// Writes the values of each byte's two digits.
+fn write_values(digits: &mut [u8], bytes: &[u8])
+    requires { length digits.old ≡ byte_digits * length bytes.now }
+    ensures { digits.new ≡ byte_values bytes.now }
+{
+    for (i, byte) in bytes.iter().enumerate() {
+        digits[BYTE_DIGITS * i] = *byte / 16;
+        digits[BYTE_DIGITS * i + 1] = *byte % 16;
+    }
+}
+
+// Makes characters of the values of digits. The remainder changes no digit, and nothing need be known of the bytes.
 fn spell(digits: &mut [u8])
-    ensures { digits.new ≡ map (λ (d : ℕ). hex_character (d % 16)) digits.old }
+    ensures { digits.new ≡ spelled digits.old }
 {
-    let mut i = 0;
-    while i < digits.len() {
-        digits[i] = hex_character(digits[i] % 16);
-        i += 1;
+    for digit in digits.iter_mut() {
+        *digit = hex_character(*digit % 16);
     }
 }
 
-// Writes the bytes of a figure from a place on, the highest first.
-fn write_bytes(bytes: &mut [u8], at: usize, value: u32)
-    requires { at + figure_bytes ≤ length bytes.old }
-    ensures { bytes.new ≡ sets bytes.old at (digits_in 256 figure_bytes value) }
+// Writes the digits of bytes: the values of all, and then the characters of all, since in each of the two loops the compiler takes
+// 16 together. One loop, from bytes to characters, takes half as long again.
+fn write_digits(digits: &mut [u8], bytes: &[u8])
+    requires { length digits.old ≡ byte_digits * length bytes.now }
+    ensures { digits.new ≡ spelled (byte_values bytes.now) }
 {
-    let mut left = value;
-    let mut i = FIGURE_BYTES;
-    while 0 < i {
-        i -= 1;
-        bytes[at + i] = (left % 256) as u8;
-        left /= 256;
-    }
-}
-
-// Writes the bytes of the header's figures at the start.
-fn write_header(bytes: &mut [u8], number: u32, quote: Granted)
-    requires { header_bytes ≤ length bytes.old }
-    ensures { bytes.new ≡ sets bytes.old 0 (figures_bytes (header_figures (figures_of number (as_quote quote)))) }
-{
-    let total = quote.total;
-    write_bytes(bytes, 0, number);
-    write_bytes(bytes, MEMBER_BYTES_AT, quote.member);
-    write_bytes(bytes, TOTAL_BYTES_AT, total.0);
-}
-
-// Writes the bytes of a share's figures from a place on.
-fn write_share(bytes: &mut [u8], at: usize, share: Share)
-    requires { at + share_bytes ≤ length bytes.old }
-    ensures { bytes.new ≡ sets bytes.old at (figures_bytes (share_figures share)) }
-{
-    let lump = share.lump;
-    let remaining = share.remaining;
-    let second = share.second;
-    write_bytes(bytes, at, lump.0);
-    write_bytes(bytes, at + REMAINING_BYTES_AT, remaining.0);
-    write_bytes(bytes, at + SECOND_BYTES_AT, second.0);
-}
-
-// Writes the values of each byte's two digits, from a line's start on.
-fn write_values(line: &mut [u8], bytes: &[u8])
-    requires { byte_digits * length bytes.now ≤ length line.old }
-    ensures { line.new ≡ sets line.old 0 (byte_values bytes.now) }
-{
-    let mut i = 0;
-    while i < bytes.len() {
-        line[BYTE_DIGITS * i] = bytes[i] / 16;
-        line[BYTE_DIGITS * i + 1] = bytes[i] % 16;
-        i += 1;
-    }
+    write_values(digits, bytes);
+    spell(digits);
 }
 
 // Writes a figure's digits over as many characters.
@@ -121,28 +89,25 @@ pub fn write_figure(digits: &mut [u8], value: u32)
     requires { length digits.old ≡ figure_width }
     ensures { digits.new ≡ hex_text figure_width value }
 {
-    let mut bytes = [0u8; FIGURE_BYTES];
-    write_bytes(&mut bytes, 0, value);
-    write_values(digits, &bytes);
-    spell(digits);
+    write_digits(digits, &value.to_be_bytes());
 }
 
-// Writes the line of a numbered quote over a whole line's bytes. Only the figures' bytes, half as many as the digits, are written
-// one by one; the compiler takes 16 together where values are made of the bytes, and characters of the values.
+// Writes the line of a numbered quote over a whole line's bytes: the bytes of its figures first, and then the digits of them all
+// together.
 pub fn write_line(line: &mut [u8], number: u32, quote: Granted)
     requires { (length line.old ≡ line_length) × (length quote.shares ≡ share_count) }
     ensures { line.new ≡ line_text (figures_of number (as_quote quote)) }
 {
     let mut bytes = [0u8; TEXT_BYTES];
-    write_header(&mut bytes, number, quote);
-    let shares = quote.shares;
-    let mut i = 0;
-    while i < SHARES {
-        let share = shares[i];
-        write_share(&mut bytes, HEADER_BYTES + SHARE_BYTES * i, share);
-        i += 1;
+    write_figures(
+        &mut bytes[0..HEADER_BYTES],
+        &[number, quote.member, quote.total.0],
+    );
+    for (i, share) in quote.shares.iter().enumerate() {
+        let at = HEADER_BYTES + SHARE_BYTES * i;
+        let figures = [share.lump.0, share.remaining.0, share.second.0];
+        write_figures(&mut bytes[at..at + SHARE_BYTES], &figures);
     }
-    write_values(line, &bytes);
-    spell(&mut line[0..TEXT_LENGTH]);
+    write_digits(&mut line[0..TEXT_LENGTH], &bytes);
     line[TEXT_LENGTH] = b'\n';
 }

@@ -1,13 +1,7 @@
--- `spell` makes each digit's character: what is made, with what the values left make, is what all make.
-use Prim.Native.Nat.{◌-◌}
-use mathlib.Core.List.{◌++◌}
-use mathlib.Core.Path.{◌≡◌}
-use lib.ListN.{length, take, drop}
-use Rattle.register.proofs.LineLoop.{spelled}
+-- `spell` makes each digit's character: what is made, with the values left made, is what all make.
+use Rattle.std.proofs.Common.{◌≡◌, ◌++◌, take, drop}
+use Rattle.register.specs.Scan.{spelled}
 use Rattle.register.proofs.layout.spell.Given as goal
 
-abbrev pub invariant-loop-i : goal.invariant-loop-i
-invariant-loop-i l = (length l.digits ≡ length l.initial.digits) × (take l.i l.digits ++ spelled (drop l.i l.digits) ≡ spelled l.initial.digits)
-
-abbrev pub decreases-loop-i : goal.decreases-loop-i
-decreases-loop-i l = length l.initial.digits - l.i
+abbrev pub invariant-loop-digit : goal.invariant-loop-digit
+invariant-loop-digit l = take l.digit-index l.digits ++ spelled (drop l.digit-index l.digits) ≡ spelled l.initial.digits

@@ -1,28 +1,27 @@
--- `line_end` passes spans without a newline: no character passed is one, and the first from there on is the line's end.
-use mathlib.Core.Path.{sym, ◌∙◌}
-use native.Mathlib.Omega.{arith}
-use Rattle.register.proofs.TextLoop.{unbroken_span, end_further}
+-- `line_end` is where `memchr` finds a newline in the rest of the text, or the text's end where the rest has none.
+use Rattle.std.proofs.Common.{arith}
+use Rattle.std.proofs.lemmas.Bool.{ne_eqb}
+use Rattle.register.proofs.Searched.{rest_length, byte_found, byte_passed}
 use Rattle.register.proofs.text.line_end.Goals as goal
 
-pub loop-end-init : goal.loop-end-init
-loop-end-init c = (omega arith, omega arith, λ j h g. absurd (omega arith))
+pub returns-in-Some : goal.returns-in-Some
+returns-in-Some c =
+    let text = c.args.text.now in
+    let at = c.args.at in
+    let found = c.in-Some.ensures in record {
+      after = omega arith;
+      inside = omega (arith, found.0.high, rest_length text at);
+      unbroken = λ j g l. ne_eqb _ 10 (λ z. byte_passed _ text at _ found.0.before j g l (omega (arith, z)));
+      ended = λ h. omega (arith, byte_found _ text at _ found.1);
+    }
 
-pub returns-then-has_newline : goal.returns-then-has_newline
-returns-then-has_newline c =
-    let l = c.loop-end in
-    end_further _ _ l.end _ l.invariant.0 l.invariant.2 c.newline_from.ensures
-
-pub loop-end-preserved : goal.loop-end-preserved
-loop-end-preserved c =
-    let l = c.loop-end in
-    let t = c.loop-end-test.true in (
-      omega arith,
-      omega (arith, t),
-      unbroken_span c.args.text.now _ l.end 16 (omega (arith, t)) l.invariant.2
-          (sym c.has_newline.ensures ∙ c.if-has_newline.false),
-    )
-
-pub returns : goal.returns
-returns c =
-    let l = c.loop-end in
-    end_further _ _ l.end _ l.invariant.0 l.invariant.2 c.newline_from-2.ensures
+pub returns-in-None : goal.returns-in-None
+returns-in-None c =
+    let text = c.args.text.now in
+    let at = c.args.at in record {
+      after = omega arith;
+      inside = omega arith;
+      unbroken = λ j g l.
+          ne_eqb _ 10 (λ z. byte_passed _ text at _ c.in-None.ensures j g (omega (arith, rest_length text at)) (omega (arith, z)));
+      ended = λ h. absurd (omega arith);
+    }
