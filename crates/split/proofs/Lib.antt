@@ -17,6 +17,7 @@ pub mod FrameLaws
 pub mod GrantLoop
 pub mod Granted
 pub mod HexLaws
+pub mod KindLaws
 pub mod Level
 pub mod LimitsLaws
 pub mod ListLoop

@@ -9,6 +9,7 @@ pub mod Conditions
 pub mod Figures
 pub mod Frame
 pub mod Grant
+pub mod Kind
 pub mod Letters
 pub mod Limits
 pub mod Overlong

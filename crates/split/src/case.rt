@@ -1,9 +1,11 @@
 // A case as its line has it: the head, a pension and the amount used, each read where a cursor stands.
-ghost use Rattle.std.specs.Prelude.{◌+◌, ◌≤◌, ◌<◌};
+ghost use Rattle.std.specs.Prelude.{◌≡◌, ◌+◌, ◌≤◌, ◌<◌, eqb};
 ghost use Rattle.split.specs.Case.{head_at, service_at, terms_at, pension_at, allowance_used_at, head_length, pension_length, allowance_used_length, longest_line};
 ghost use Rattle.split.specs.Bytes.{FieldOf, Taken};
+ghost use Rattle.split.specs.Kind.{kind_number};
 
 use crate::frame::{Cursor, Field, LONGEST};
+use crate::kind::Kind;
 use calendar::Date;
 use factors::effective::FactorTerms;
 use factors::money::{LumpPence, YearlyPence};
@@ -22,6 +24,8 @@ pub struct Service {
     pub end: Date,
 }
 
+// A pension as its line has it. The kind is the line's byte, since a byte that stands for no kind is refused only after the conditions
+// that come first: the definitions, as unknown_kind, are of that byte.
 #[derive(Clone, Copy)]
 pub struct Pension {
     pub kind: u8,
@@ -29,6 +33,15 @@ pub struct Pension {
     pub service: Service,
     pub lift: u8,
     pub terms: FactorTerms,
+}
+
+impl Pension {
+    // Whether it is of a kind.
+    pub fn is_of(self, kind: Kind) -> bool
+        ensures { result ≡ eqb self.kind (kind_number kind) }
+    {
+        self.kind == kind.number()
+    }
 }
 
 // The head, which a line begins with.

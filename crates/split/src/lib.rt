@@ -6,6 +6,7 @@ pub mod answers;
 mod case;
 mod frame;
 mod grant;
+mod kind;
 mod limits;
 mod overlong;
 mod pensions;

@@ -5,8 +5,9 @@ ghost use Rattle.calendar.specs.Tests.{lowest, within};
 ghost use Rattle.refusals.specs.Numbers.{refusal_number};
 ghost use Rattle.split.specs.Conditions.{lower, later_conditions, pension_conditions};
 
-use crate::case::{Head, Pension};
+use crate::case::{Head, Pension, Service};
 use crate::frame;
+use crate::kind::Kind;
 use refusals::Refusal;
 
 fn is_within(low: u32, high: u32, x: u32) -> bool
@@ -26,31 +27,22 @@ pub fn has_bad_length(characters: usize, n: u8) -> bool
 fn is_undated_head(head: Head) -> bool
     ensures { result ≡ undated_head head }
 {
-    let birth = head.birth;
-    let commencement = head.commencement;
-    !calendar::in_calendar(birth) | !calendar::in_calendar(commencement)
+    !calendar::in_calendar(head.birth) | !calendar::in_calendar(head.commencement)
 }
 
 fn is_undated(p: Pension) -> bool
     ensures { result ≡ undated p }
 {
-    let service = p.service;
-    let start = service.start;
-    let end = service.end;
-    !calendar::in_calendar(start) | !calendar::in_calendar(end)
+    !calendar::in_calendar(p.service.start) | !calendar::in_calendar(p.service.end)
 }
 
 fn is_disordered(head: Head, p: Pension) -> bool
     ensures { result ≡ disordered head p }
 {
-    let birth = head.birth;
-    let commencement = head.commencement;
-    let service = p.service;
-    let start = service.start;
-    let end = service.end;
-    let born = calendar::is_earlier(birth, start);
+    let Service { start, end } = p.service;
+    let born = calendar::is_earlier(head.birth, start);
     let ended = calendar::is_earlier(end, start);
-    let commenced = calendar::is_earlier(commencement, end);
+    let commenced = calendar::is_earlier(head.commencement, end);
     !born | (ended | commenced)
 }
 
@@ -63,7 +55,7 @@ fn is_bad_age(age: u32) -> bool
 fn is_unknown_kind(p: Pension) -> bool
     ensures { result ≡ unknown_kind p }
 {
-    !is_within(1, 3, p.kind as u32)
+    Kind::try_from(p.kind).is_err()
 }
 
 // A bound where it applies, and 0 where it does not.
@@ -86,8 +78,8 @@ fn is_unlisted(p: Pension) -> bool
     ensures { result ≡ unlisted p }
 {
     let t = p.terms;
-    let second = p.kind == 2;
-    let first_or_second = second | (p.kind == 1);
+    let second = p.is_of(Kind::AfterBreak1987);
+    let first_or_second = second | p.is_of(Kind::Service1987);
     let lift = p.lift as u32 <= bound(first_or_second, 1);
     let f1 = (t.f1 == 0) | (first_or_second & is_within(500, 4000, t.f1 as u32));
     let f2 = is_listed(second, 500, 4000, t.f2 as u32);
@@ -99,18 +91,17 @@ fn is_unlisted(p: Pension) -> bool
 fn is_wrong_age(age: u32, p: Pension) -> bool
     ensures { result ≡ wrong_age age p }
 {
-    let second = p.kind == 2;
-    let third = p.kind == 3;
+    let second = p.is_of(Kind::AfterBreak1987);
+    let third = p.is_of(Kind::Service2015);
     second & (660 <= age) | third & (age < 660)
 }
 
 fn has_no_factor(age: u32, p: Pension) -> bool
     ensures { result ≡ no_factor age p }
 {
-    let terms = p.terms;
-    let first = p.kind == 1;
-    let second = p.kind == 2;
-    let zero = terms.f1 == 0;
+    let first = p.is_of(Kind::Service1987);
+    let second = p.is_of(Kind::AfterBreak1987);
+    let zero = p.terms.f1 == 0;
     (first | second) & (zero & !is_within(636, 875, age))
 }
 
@@ -174,13 +165,10 @@ fn terms_refusal(age: u32, p: Pension) -> Result<(), Refusal>
 fn is_plain_service(head: Head, p: Pension) -> bool
     ensures { result ≡ true → (undated p ≡ false) × (disordered head p ≡ false) }
 {
-    let service = p.service;
-    let start = service.start;
-    let end = service.end;
-    if !calendar::is_common_date(start) {
+    if !calendar::is_common_date(p.service.start) {
         return false;
     }
-    if !calendar::is_common_date(end) {
+    if !calendar::is_common_date(p.service.end) {
         return false;
     }
     !is_disordered(head, p)
@@ -190,19 +178,7 @@ fn is_plain_service(head: Head, p: Pension) -> bool
 fn has_plain_terms(age: u32, p: Pension) -> bool
     ensures { result ≡ true → (unknown_kind p ≡ false) × (lowest 7 (later_conditions age p) ≡ 0) }
 {
-    if is_unknown_kind(p) {
-        return false;
-    }
-    if is_unlisted(p) {
-        return false;
-    }
-    if is_wrong_age(age, p) {
-        return false;
-    }
-    if has_no_factor(age, p) {
-        return false;
-    }
-    !is_unstated(p)
+    !is_unknown_kind(p) && terms_refusal(age, p).is_ok()
 }
 
 // The lowest refusal that a pension gives. Most pensions give none, which is told without a look at leap years; only the

@@ -1,6 +1,6 @@
 -- `is_unlisted` is the definition `unlisted`: its bounds are those of each kind.
 use Prim.Native.Nat.{ℕ}
-use mathlib.Core.Path.{◌≡◌, refl}
+use mathlib.Core.Path.{◌≡◌, sym}
 use mathlib.Core.Bool.{Bool, true, false, cond, not, ◌&&◌, ◌||◌, or-false}
 use native.Mathlib.Omega.{arith}
 use lib.Dec.{leb, eqb}
@@ -32,4 +32,4 @@ pub returns : goal.returns
 returns c =
     let p = c.args.p in
     rw (c.bound.ensures, c.is_within.ensures, c.is_listed-f2.ensures, c.is_listed-f3.ensures, c.is_listed-increase.ensures)
-    (by_kind p (eqb p.kind 1) (eqb p.kind 2) refl refl)
+    (by_kind p c.is_of.result c.is_of-second.result (sym c.is_of.ensures) (sym c.is_of-second.ensures))
