@@ -1,6 +1,6 @@
 -- Bounds of what filing a text leaves: the used part is within the register, and no text has more lines than characters. By
 -- induction on the filings, of which a granted one has its room, and on the characters.
-use Rattle.std.proofs.Common.{◌≡◌, ℕ, ◌+◌, ◌≤◌, Bool, true, false, cond, List, [], ◌∷◌, ◌++◌, length, refl, ap, ◌∙◌, inl, inr, arith, length-append, length-drop, length-take}
+use Rattle.std.proofs.Common.{◌≡◌, ℕ, ◌+◌, ◌≤◌, List, [], ◌∷◌, ◌++◌, length, ap, ◌∙◌, inl, inr, arith, length-append, length-drop, length-take}
 use Rattle.std.proofs.lemmas.Bool.{cases_lt}
 use Rattle.register.specs.Layout.{Register, line_length}
 use Rattle.register.specs.File.{Filing, file_refusal, text_filed, grown, file_step, file_run}

@@ -22,7 +22,7 @@ const OUTPUT_LENGTH: usize = 65536;
 // The number of the first filed line.
 const FIRST_NUMBER: u32 = 1;
 
-// A block of input, at whose start a line without its end is kept.
+// A block of input, and how many characters of a line without its end are kept at its start.
 #[derive(Drop)]
 struct Input {
     bytes: [u8; INPUT_LENGTH],
@@ -33,7 +33,7 @@ struct Input {
 impl Input {
     // Reads a block behind what is kept, and tells where it ends, or that the input has ended.
     fn read_block(&mut self, reader: &mut impl Read) -> io::Result<Option<usize>>
-        ensures { IfOk result (λ block. IfSome block (λ end. (1 ≤ end) × (end ≤ input_length))) }
+        ensures { IfOk result (λ block. IfSome block (λ end. end ≤ input_length)) }
     {
         let kept = self.kept;
         let count = reader.read(&mut self.bytes[kept..])?;
@@ -48,10 +48,8 @@ impl Input {
         requires { before ≤ input_length }
         ensures { result ≤ before }
     {
-        match self.bytes[..before].iter().rposition(|c| *c == b'\n') {
-            Some(newline) => newline + 1,
-            None => 0,
-        }
+        let newline = self.bytes[..before].iter().rposition(|c| *c == b'\n');
+        newline.map_or(0, |at| at + 1)
     }
 
     // Keeps the characters from a place on, the beginning of a line, at the start. Of more than there is room for, the first are
@@ -92,13 +90,13 @@ impl Register {
     }
 }
 
-// The output, of which some bytes wait to be written.
+// The output, of which the first bytes wait to be written.
 #[derive(Drop)]
 struct Output<'a, P: Print> {
     printer: &'a P,
     bytes: [u8; OUTPUT_LENGTH],
     waiting: usize,
-    ghost within: { waiting ≤ length bytes },
+    ghost within: { waiting ≤ output_length },
 }
 
 impl<P: Print> Output<'_, P> {
@@ -125,14 +123,11 @@ impl<P: Print> Output<'_, P> {
         self.waiting = end;
         Ok(())
     }
-}
 
-impl<P: Print> Output<'_, P> {
-    // Queues what each filing answered: the next of the filed lines, or the refusal.
+    // Queues what each filing answered: the next of the filed lines, or the refusal, which is 0 for none.
     fn say_answers(&mut self, filed: &[u8], refusals: &[u8]) -> io::Result<()> {
         let mut lines = filed.as_chunks::<LINE_LENGTH>().0.iter();
-        for refusal in refusals {
-            let refusal = *refusal;
+        for &refusal in refusals {
             if refusal != 0 {
                 self.queue(&[b'R', b'0' + refusal / 10 % 10, b'0' + refusal % 10, b'\n'])?;
             } else if let Some(line) = lines.next() {
@@ -143,7 +138,7 @@ impl<P: Print> Output<'_, P> {
     }
 }
 
-// What the program works on.
+// A run of the program: where it reads, and what it works on.
 #[derive(Drop)]
 struct Run<'a, R: Read + Drop, P: Print> {
     reader: R,
@@ -153,9 +148,10 @@ struct Run<'a, R: Read + Drop, P: Print> {
 }
 
 impl<R: Read + Drop, P: Print> Run<'_, R, P> {
-    // Files the input's lines before an end, if it has any, and prints what each filing answered: the next filed line or the refusal.
+    // Files the input's lines before an end, if it has any, and queues what each filing answered.
     fn file_text(&mut self, end: usize) -> io::Result<()>
         requires { end ≤ input_length }
+        ensures input { (self.new.input.bytes ≡ self.old.input.bytes) × (self.new.input.kept ≡ self.old.input.kept) }
     {
         if end == 0 {
             return Ok(());
@@ -166,7 +162,7 @@ impl<R: Read + Drop, P: Print> Run<'_, R, P> {
 
     // Takes the input up to an end: its whole lines are filed, and what is left is kept.
     fn take_block(&mut self, end: usize) -> io::Result<()>
-        requires { (1 ≤ end) × (end ≤ input_length) }
+        requires { end ≤ input_length }
     {
         let whole = self.input.whole_lines(end);
         self.file_text(whole)?;

@@ -1,7 +1,7 @@
 -- The used part stays within the register, and a text that is no longer than the refusals has no more lines than they are.
-use Rattle.std.proofs.Common.{rules, ◌≤◌, ◌≡◌, length, ap, arith}
+use Rattle.std.proofs.Common.{rules, length, ap, arith}
 use Rattle.register.specs.Layout.{lent}
-use Rattle.register.specs.Text.{text_filings, text_lines}
+use Rattle.register.specs.Text.{text_filings}
 use Rattle.quotes.proofs.FiledLaws.{run_within, lines_few}
 use Rattle.quotes.proofs.Register.file.Goals as goal
 
