@@ -8,33 +8,35 @@ const REGISTER_LENGTH: usize = 65536;
 // The number of the first filed line.
 const FIRST_NUMBER: u32 = 1;
 
+// More filings than the register has room for.
+const FILINGS: u64 = 1000;
+
 // How many lines were filed, the used length then, and the refusal that ended it.
 #[derive(Clone, Copy)]
 struct Filling {
-    pub lines: u64,
-    pub used: usize,
-    pub refusal: u8,
+    lines: u64,
+    used: usize,
+    refusal: Option<u8>,
 }
 
 // Files a case again and again until it is refused.
 fn fill(register: &mut [u8], line: &[u8]) -> Filling {
     let mut used = 0;
-    for lines in 0..1000 {
+    for lines in 0..FILINGS {
         let filed = register::file(register, used, FIRST_NUMBER, line);
-        let refusal = filed.refusal;
-        if refusal != 0 {
+        if filed.refusal != 0 {
             return Filling {
                 lines,
                 used,
-                refusal,
+                refusal: Some(filed.refusal),
             };
         }
         used = filed.used;
     }
     Filling {
-        lines: 1000,
+        lines: FILINGS,
         used,
-        refusal: 0,
+        refusal: None,
     }
 }
 
@@ -69,10 +71,11 @@ fn main(rt: HostRuntime) -> io::Result<()> {
     let line = b"0000000107B2060F07E707010101002DC6C007C9060107E70701000000000000000000";
     let filled = fill(&mut register, line);
     let used = filled.used;
-    println!(rt;
-        "{} lines filed, then refusal {}",
-        filled.lines, filled.refusal
-    )?;
+    print!(rt; "{} lines filed", filled.lines)?;
+    if let Some(refusal) = filled.refusal {
+        print!(rt; ", then refusal {refusal}")?;
+    }
+    println!(rt)?;
     print!(rt; "A bad character still gives refusal ")?;
     refused(&rt, &mut register, used, b"x")?;
     print!(rt; "An empty line still gives refusal ")?;
