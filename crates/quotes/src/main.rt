@@ -63,7 +63,8 @@ impl Input {
     }
 }
 
-// The register, its used length, and the refusals of the lines that were filed last.
+// The register, its used length, and the refusals of the lines that were filed last. Those are bytes, 0 for none, since the call
+// that writes them is C's too.
 #[derive(Drop)]
 struct Register {
     bytes: [u8; REGISTER_LENGTH],
@@ -124,7 +125,7 @@ impl<P: Print> Output<'_, P> {
         Ok(())
     }
 
-    // Queues what each filing answered: the next of the filed lines, or the refusal, which is 0 for none.
+    // Queues what each filing answered: the next of the filed lines, or the refusal.
     fn say_answers(&mut self, filed: &[u8], refusals: &[u8]) -> io::Result<()> {
         let mut lines = filed.as_chunks::<LINE_LENGTH>().0.iter();
         for &refusal in refusals {
