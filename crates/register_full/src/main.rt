@@ -8,85 +8,90 @@ const REGISTER_LENGTH: usize = 65536;
 // The number of the first filed line.
 const FIRST_NUMBER: u32 = 1;
 
-// How many lines were filed, the used length then, and the refusal that ended it.
-#[derive(Clone, Copy)]
-struct Filling {
-    pub lines: u64,
-    pub used: usize,
-    pub refusal: u8,
+// More filings than the register has room for.
+const FILINGS: u64 = 1000;
+
+// A register and its used length.
+#[derive(Drop)]
+struct Register {
+    bytes: [u8; REGISTER_LENGTH],
+    used: usize,
 }
 
-// Files a case again and again until it is refused.
-fn fill(register: &mut [u8], line: &[u8]) -> Filling {
-    let mut used = 0;
-    for lines in 0..1000 {
-        let filed = register::file(register, used, FIRST_NUMBER, line);
-        let refusal = filed.refusal;
-        if refusal != 0 {
-            return Filling {
-                lines,
-                used,
-                refusal,
-            };
+impl Register {
+    // Files a case. Refused, it leaves the register as it is and tells the refusal.
+    fn file(&mut self, line: &[u8]) -> Result<(), u8> {
+        let filed = register::file(&mut self.bytes, self.used, FIRST_NUMBER, line);
+        if filed.refusal != 0 {
+            return Err(filed.refusal);
         }
-        used = filed.used;
+        self.used = filed.used;
+        Ok(())
     }
-    Filling {
-        lines: 1000,
-        used,
-        refusal: 0,
+
+    // Files a case again and again until it is refused: how many lines were filed, and the refusal.
+    fn fill(&mut self, line: &[u8]) -> Option<(u64, u8)> {
+        for lines in 0..FILINGS {
+            if let Err(refusal) = self.file(line) {
+                return Some((lines, refusal));
+            }
+        }
+        None
+    }
+
+    fn say_number(&self, rt: &impl Print, quote: u32) -> io::Result<()> {
+        rt.write_all(register::find_number(&self.bytes, self.used, quote))?;
+        let found = register::locate_number(&self.bytes, self.used, quote);
+        println!(rt; "{}", found.refusal)
+    }
+
+    fn say_member(&self, rt: &impl Print, member: u32) -> io::Result<()> {
+        rt.write_all(register::find_member(&self.bytes, self.used, member))?;
+        let found = register::locate_member(&self.bytes, self.used, member);
+        println!(rt;
+            "{}, lines compared: {}",
+            found.located.refusal, found.compared
+        )
     }
 }
 
-// What filing a line answers, whose register stays as it is.
-fn refused(rt: &impl Print, register: &mut [u8], used: usize, line: &[u8]) -> io::Result<()> {
-    let filed = register::file(register, used, FIRST_NUMBER, line);
-    println!(rt; "{}", filed.refusal)
+// What filing a case answered.
+fn say_filed(rt: &impl Print, filed: Result<(), u8>) -> io::Result<()> {
+    match filed {
+        Ok(()) => println!(rt; "none"),
+        Err(refusal) => println!(rt; "{refusal}"),
+    }
 }
 
-fn checked(rt: &impl Print, register: &[u8], used: usize) -> io::Result<()> {
+fn say_checked(rt: &impl Print, register: &[u8], used: usize) -> io::Result<()> {
     let found = register::check(register, used);
     println!(rt; "{} at offset {}", found.refusal, found.offset)
 }
 
-fn found_number(rt: &impl Print, register: &[u8], used: usize, quote: u32) -> io::Result<()> {
-    rt.write_all(register::find_number(register, used, quote))?;
-    let found = register::locate_number(register, used, quote);
-    println!(rt; "{}", found.refusal)
-}
-
-fn found_member(rt: &impl Print, register: &[u8], used: usize, member: u32) -> io::Result<()> {
-    rt.write_all(register::find_member(register, used, member))?;
-    let found = register::locate_member(register, used, member);
-    println!(rt;
-        "{}, lines compared: {}",
-        found.located.refusal, found.compared
-    )
-}
-
 fn main(rt: HostRuntime) -> io::Result<()> {
-    let mut register = [0u8; REGISTER_LENGTH];
+    let mut register = Register {
+        bytes: [0; REGISTER_LENGTH],
+        used: 0,
+    };
     let line = b"0000000107B2060F07E707010101002DC6C007C9060107E70701000000000000000000";
-    let filled = fill(&mut register, line);
-    let used = filled.used;
-    println!(rt;
-        "{} lines filed, then refusal {}",
-        filled.lines, filled.refusal
-    )?;
+    match register.fill(line) {
+        Some((lines, refusal)) => println!(rt; "{lines} lines filed, then refusal {refusal}")?,
+        None => println!(rt; "{FILINGS} lines filed, and no refusal")?,
+    }
     print!(rt; "A bad character still gives refusal ")?;
-    refused(&rt, &mut register, used, b"x")?;
+    say_filed(&rt, register.file(b"x"))?;
     print!(rt; "An empty line still gives refusal ")?;
-    refused(&rt, &mut register, used, b"")?;
+    say_filed(&rt, register.file(b""))?;
     print!(rt; "The check gives ")?;
-    checked(&rt, &register, used)?;
+    say_checked(&rt, &register.bytes, register.used)?;
     print!(rt; "The check of one byte more, 65462, gives ")?;
-    checked(&rt, &register, 65462)?;
+    say_checked(&rt, &register.bytes, 65462)?;
     println!(rt; "Number 541 and its refusal:")?;
-    found_number(&rt, &register, used, 541)?;
+    register.say_number(&rt, 541)?;
     print!(rt; "Number 542, which is absent: ")?;
-    found_number(&rt, &register, used, 542)?;
+    register.say_number(&rt, 542)?;
     println!(rt; "The newest line of member 1, its refusal and how many lines were compared:")?;
-    found_member(&rt, &register, used, 1)?;
+    register.say_member(&rt, 1)?;
     print!(rt; "Member 2, who is absent: ")?;
-    found_member(&rt, &register, used, 2)
+    register.say_member(&rt, 2)
 }
