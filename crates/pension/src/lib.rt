@@ -5,8 +5,9 @@
 mod answers;
 
 ghost use Rattle.std.specs.Prelude.{◌≡◌, length, take, drop};
+ghost use Rattle.refusals.specs.Numbers.{number};
 ghost use Rattle.calendar.specs.Calendar.{date_fault};
-ghost use Rattle.split.specs.Quote.{quote_of};
+ghost use Rattle.split.specs.Quote.{as_quote, refused_quote, answered, quote_of};
 ghost use Rattle.register.specs.Check.{check_of};
 ghost use Rattle.register.specs.Find.{has_number, has_member, find_line, locate, locate_member};
 ghost use Rattle.register.specs.Layout.{lent};
@@ -20,16 +21,17 @@ use answers::{
     PensionChecked, PensionCommuted, PensionFiled, PensionFiledLines, PensionFound,
     PensionFoundMember, PensionQuote, PensionWritten,
 };
+use refusals::Refusal;
 use register::answers::{Filed, Located, LocatedMember};
-use split::answers::Quote;
+use split::answers::Granted;
 use trivial_commutation::YearlyAmount;
 
-// The figures of a quote's four shares side by side, in the width that C has them.
-fn quote_for_c(quote: Quote) -> PensionQuote
-    requires { length quote.shares ≡ 4 }
-    ensures { result ≡ quote_for_c quote }
+// The figures of a grant's four shares side by side, in the width that C has them.
+fn granted_for_c(granted: Granted) -> PensionQuote
+    requires { length granted.shares ≡ 4 }
+    ensures { result ≡ quote_for_c (as_quote granted) }
 {
-    let shares = quote.shares;
+    let shares = granted.shares;
     let mut lump = [0u64; 4];
     let mut remaining = [0u64; 4];
     let mut second = [0u64; 4];
@@ -42,12 +44,37 @@ fn quote_for_c(quote: Quote) -> PensionQuote
         i += 1;
     }
     PensionQuote {
-        refusal: quote.refusal as u32,
-        member: quote.member,
-        total: quote.total.0 as u64,
+        refusal: 0,
+        member: granted.member,
+        total: granted.total.0 as u64,
         lump,
         remaining,
         second,
+    }
+}
+
+// A refusal by its number, with zero figures.
+fn refused_for_c(refusal: Refusal) -> PensionQuote
+    ensures { result ≡ quote_for_c (refused_quote (number refusal)) }
+{
+    PensionQuote {
+        refusal: refusal.number() as u32,
+        member: 0,
+        total: 0,
+        lump: [0; 4],
+        remaining: [0; 4],
+        second: [0; 4],
+    }
+}
+
+impl From<Result<Granted, Refusal>> for PensionQuote {
+    ghost from_gives = { λ answer quote. quote ≡ quote_for_c (answered answer) };
+
+    fn from(answer: Result<Granted, Refusal>) -> PensionQuote {
+        match answer {
+            Ok(granted) => granted_for_c(granted),
+            Err(refusal) => refused_for_c(refusal),
+        }
     }
 }
 
@@ -56,8 +83,8 @@ fn quote_for_c(quote: Quote) -> PensionQuote
 pub extern "C" fn pension_quote(line: &[u8]) -> PensionQuote
     ensures { result ≡ quote_for_c (quote_of line.now) }
 {
-    let quote = split::quote(line);
-    quote_for_c(quote)
+    let answer = split::quote(line);
+    PensionQuote::from(answer)
 }
 
 // The check of a register.

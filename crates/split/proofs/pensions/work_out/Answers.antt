@@ -92,9 +92,9 @@ ended : (c : Joined-stated-gt50000000) → let l = c.loop-i in
 ended c = elim c.if-stated-gt50000000.branch [
   | then-stated-gt50000000 w ↦
       rw w.refused-is
-      (gone_above (gone ((goal.at.Joined-stated-gt50000000 c).After-loop-i)) _ w.if-stated-gt50000000.true w.lower_of-refused-then-stated-gt50000000.ensures)
+      (gone_above (gone ((goal.at.Joined-stated-gt50000000 c).After-loop-i)) _ (omega arith) w.lower_of-refused-then-stated-gt50000000.ensures)
   | else-stated-gt50000000 w ↦
-      rw w.refused-is (gone_within (gone ((goal.at.Joined-stated-gt50000000 c).After-loop-i)) w.if-stated-gt50000000.false)
+      rw w.refused-is (gone_within (gone ((goal.at.Joined-stated-gt50000000 c).After-loop-i)) (omega arith))
 ]
 
 pub returns-in_err-refused : goal.returns-in_err-refused

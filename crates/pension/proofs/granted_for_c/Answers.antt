@@ -1,10 +1,10 @@
--- `quote_for_c` is the definition `quote_for_c`: the figures of the first `i` shares are stored, for any `i`.
+-- `granted_for_c` is the definition `quote_for_c` of a grant: the figures of the first `i` shares are stored, for any `i`.
 use mathlib.Core.Path.{refl}
 use native.Mathlib.Omega.{arith}
-use Rattle.split.specs.Quote.{no_share}
+use Rattle.split.specs.Quote.{no_share, as_quote}
 use Rattle.pension.specs.Interface.{quote_for_c}
 use Rattle.pension.proofs.InterfaceLaws.{filled_more, filled_all}
-use Rattle.pension.proofs.quote_for_c.Goals as goal
+use Rattle.pension.proofs.granted_for_c.Goals as goal
 
 pub loop-i-init : goal.loop-i-init
 loop-i-init c = (
@@ -29,7 +29,7 @@ pub returns : goal.returns
 unfolding quote_for_c
 returns c =
     let l = c.loop-i in
-    let q = c.args.quote in
+    let q = as_quote c.args.granted in
     let h = l.invariant.0 in
     let g = c.loop-i-test.false in
     λ i. record {

@@ -1,8 +1,8 @@
--- `quote_for_c` is the definition `quote_for_c`: the figures of the first `i` shares are stored, for any `i`.
+-- `granted_for_c` is the definition `quote_for_c` of a grant: the figures of the first `i` shares are stored, for any `i`.
 use Prim.Native.Nat.{◌-◌, ◌≤◌}
 use Rattle.split.specs.declared.answers.Share.{Share}
 use Rattle.pension.proofs.InterfaceLaws.{Filled}
-use Rattle.pension.proofs.quote_for_c.Given as goal
+use Rattle.pension.proofs.granted_for_c.Given as goal
 
 abbrev pub invariant-loop-i : goal.invariant-loop-i
 invariant-loop-i l =
