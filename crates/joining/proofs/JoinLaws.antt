@@ -1,17 +1,16 @@
--- Laws of the definitions of joining: equal characters, also told by a flag and the rest from a place on; so many numbers from a
+-- Laws of the definitions of joining: equal characters, also as lists are compared pair by pair; so many numbers from a
 -- given one on; the result's lines by their places; what 16 says of each number; what joining answers and leaves, by its refusal; and
 -- what no refusal says. By induction on the characters and on the numbers. Assumes nothing.
 use Prim.Native.Nat.{ℕ, zero, suc, ◌+◌, ◌-◌, ◌≤◌, ◌<◌}
-use mathlib.Core.Bool.{Bool, true, false, cond, not, ◌&&◌, ◌||◌, or-true, or-false, or_assoc, false≢true}
+use mathlib.Core.Bool.{Bool, true, false, cond, not, ◌&&◌, ◌||◌, or-true, false≢true}
 use mathlib.Core.List.{List, [], ◌∷◌}
 use mathlib.Core.Path.{◌≡◌, refl, sym, ◌∙◌, ap}
-use native.Mathlib.Numerals.{add-one}
 use native.Mathlib.Omega.{arith}
 use lib.Dec.{eqb}
-use lib.ListN.{length, get_or, drop, drop_of_length-le, length-map}
-use lib.Seq.{drop-cons}
-use borrow.Author.Tests.{ltb-true, ltb-false, lt-ltb, le-ltb, eqb-true, eq-eqb, ne_eqb, not-false}
-use Rattle.calendar.proofs.TestsLaws.{and_left, and_right, or_left, or_right, not_true_false, by_test, by_zero, any_none, none_any, some_any}
+use lib.ListN.{length, get_or, length-map}
+use lib.Pointwise.{pointwise, bytes_decides}
+use borrow.Author.Tests.{ltb-true, ltb-false, lt-ltb, le-ltb, eqb-true, ne_eqb, not-false}
+use Rattle.calendar.proofs.TestsLaws.{or_left, or_right, not_true_false, by_test, by_zero, any_none, none_any, some_any}
 use Rattle.split.proofs.ListLoop.{map_at}
 use Rattle.register.specs.Layout.{Register, used_lines, bytes_of}
 use Rattle.register.specs.Check.{check_of}
@@ -20,22 +19,19 @@ use Rattle.joining.specs.declared.Written.{Written}
 use Rattle.joining.specs.Join.{holds, line_of, lower_first, higher_next, numbers_from, joined_numbers, joined_line, joined_lines, same_characters, has_unlike, in_neither, not_joinable, is_too_short, not_valid, bad_register, cannot_join, no_room, join_refusal, joined_text, written_step, refused_step, join_step}
 use Rattle.joining.specs.Parts.{write_step}
 
--- characters are equal exactly where the lists are
-pub same_equal : (xs ys : List ℕ) → same_characters xs ys ≡ true → xs ≡ ys
+-- characters are equal where the lists compared pair by pair are, and so exactly where the lists are
+pub compared : (xs ys : List ℕ) → pointwise eqb xs ys ≡ same_characters xs ys
 unfolding same_characters
-same_equal [] [] e = refl
-same_equal [] (y ∷ ys) e = absurd (false≢true e)
-same_equal (x ∷ xs) [] e = absurd (false≢true e)
-same_equal (x ∷ xs) (y ∷ ys) e =
-    simp (eqb-true x y (and_left (eqb x y) _ e), same_equal xs ys (and_right (eqb x y) _ e))
+compared [] [] = refl
+compared [] (y ∷ ys) = refl
+compared (x ∷ xs) [] = refl
+compared (x ∷ xs) (y ∷ ys) = ap (λ (b : Bool). eqb x y && b) (compared xs ys)
 
-pub same_self : (xs : List ℕ) → same_characters xs xs ≡ true
-unfolding same_characters
-same_self [] = refl
-same_self (x ∷ xs) = simp (eq-eqb x x refl, same_self xs)
+pub same_equal : (xs ys : List ℕ) → same_characters xs ys ≡ true → xs ≡ ys
+same_equal xs ys e = (bytes_decides xs ys).0 (compared xs ys ∙ e)
 
 pub equal_same : (xs ys : List ℕ) → xs ≡ ys → same_characters xs ys ≡ true
-equal_same xs ys e = ap (same_characters xs) (sym e) ∙ same_self xs
+equal_same xs ys e = sym (compared xs ys) ∙ (bytes_decides xs ys).1 e
 
 pub same_swapped : (xs ys : List ℕ) → same_characters xs ys ≡ same_characters ys xs
 same_swapped xs ys = go (same_characters xs ys) refl
@@ -44,26 +40,6 @@ same_swapped xs ys = go (same_characters xs ys) refl
     go true e = sym (equal_same ys xs (sym (same_equal xs ys e)))
     go false e =
         sym (not_true_false (same_characters ys xs) (λ t. false≢true (sym e ∙ equal_same xs ys (sym (same_equal ys xs t)))))
-
--- a flag and the rest from a place on answer for the whole: with one more character, and past the end the flag alone
-module _ (xs ys : List ℕ) (i : ℕ) (whole flag : Bool) (rest : whole ≡ (flag || not (same_characters (drop i xs) (drop i ys)))) where
-  next : i < length xs → i < length ys
-      → not (same_characters (drop i xs) (drop i ys))
-      ≡ (not (eqb (get_or xs i 0) (get_or ys i 0)) || not (same_characters (drop (i + 1) xs) (drop (i + 1) ys)))
-  unfolding same_characters
-  next h g = rw (add-one, drop-cons xs i 0 h, drop-cons ys i 0 g) (go (eqb (get_or xs i 0) (get_or ys i 0)) _)
-    where
-      go : (a b : Bool) → not (a && b) ≡ (not a || not b)
-      go true b = refl
-      go false b = refl
-
-  pub unlike_more : i < length xs → i < length ys
-      → whole ≡ ((flag || not (eqb (get_or xs i 0) (get_or ys i 0))) || not (same_characters (drop (i + 1) xs) (drop (i + 1) ys)))
-  unlike_more h g = rest ∙ ap (λ (b : Bool). flag || b) (next h g) ∙ sym (or_assoc flag _ _)
-
-  pub unlike_all : length xs ≤ i → length ys ≤ i → flag ≡ whole
-  unfolding same_characters
-  unlike_all h g = sym (rest ∙ rw (drop_of_length-le xs h, drop_of_length-le ys g) (or-false flag))
 
 -- so many numbers are made as are asked for, each by its place
 pub numbers_count : (number n : ℕ) → length (numbers_from number n) ≡ n

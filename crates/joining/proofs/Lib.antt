@@ -1,7 +1,6 @@
 -- Names: `XLaws` has laws of the definitions of specs/X; every other file is named for the argument that it makes.
 pub mod Arranged
 pub mod Claim
-pub mod Copied
 pub mod Gives
 pub mod JoinLaws
 pub mod Numbers

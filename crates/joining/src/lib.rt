@@ -2,7 +2,7 @@
 // the registers are compared and copied by whole parts: their numbers rise by one, so the first of each tells which lines both have.
 #![tactic(auto)]
 
-ghost use Rattle.std.specs.Prelude.{◌≡◌, not, min, ◌++◌, length};
+ghost use Rattle.std.specs.Prelude.{◌≡◌, not, ◌++◌};
 ghost use Rattle.register.specs.Layout.{lent, used_lines};
 ghost use Rattle.joining.specs.Join.{first_number, same_characters, refused_answer, join_step};
 ghost use Rattle.joining.specs.Parts.{Ordered, lines_before, write_step};
@@ -29,16 +29,6 @@ fn refused(refusal: u8) -> Written
     Written { refusal, used: 0 }
 }
 
-// The lower of two counts.
-fn least(first: usize, second: usize) -> usize
-    ensures { result ≡ min first second }
-{
-    if second < first {
-        return second;
-    }
-    first
-}
-
 // The first number of a register, 0 where it has no lines.
 fn first_number(register: &[u8], used: usize) -> u32
     ensures { result ≡ first_number (used_lines (lent register.now used)) }
@@ -49,30 +39,11 @@ fn first_number(register: &[u8], used: usize) -> u32
     split::number_at(register, 0)
 }
 
-// Whether two parts of one length differ. It looks at all characters, with no branch for each.
+// Whether two parts differ in a character.
 fn is_unlike(first: &[u8], second: &[u8]) -> bool
-    requires { length first.now ≡ length second.now }
     ensures { result ≡ not (same_characters first.now second.now) }
 {
-    let mut unlike = false;
-    let mut i = 0;
-    while i < first.len() {
-        unlike = unlike | (first[i] != second[i]);
-        i += 1;
-    }
-    unlike
-}
-
-// Copies a part over another of its length.
-fn copy(from: &[u8], to: &mut [u8])
-    requires { length from.now ≡ length to.old }
-    ensures { to.new ≡ from.now }
-{
-    let mut i = 0;
-    while i < from.len() {
-        to[i] = from[i];
-        i += 1;
-    }
+    first != second
 }
 
 // Writes two parts one behind the other at a buffer's start; 17 and nothing where it is too short for both.
@@ -87,8 +58,8 @@ fn write_parts(first: &[u8], second: &[u8], target: &mut [u8]) -> Written
         return refused(TARGET_TOO_SHORT);
     }
     let used = seam + second.len();
-    copy(first, &mut target[0..seam]);
-    copy(second, &mut target[seam..used]);
+    target[0..seam].copy_from_slice(first);
+    target[seam..used].copy_from_slice(second);
     Written { refusal: 0, used }
 }
 
@@ -122,7 +93,7 @@ fn join_ordered(
     if lines < before {
         return refused(NOT_JOINABLE);
     }
-    let common_length = least(lines - before, high_used / LINE_LENGTH) * LINE_LENGTH;
+    let common_length = (lines - before).min(high_used / LINE_LENGTH) * LINE_LENGTH;
     let common_at = before * LINE_LENGTH;
     let common_end = common_at + common_length;
     if is_unlike(&low[common_at..common_end], &high[0..common_length]) {

@@ -38,9 +38,10 @@ fn hex_character(digit: u8) -> u8
     ensures { result ≡ hex_character digit }
 {
     if digit < 10 {
-        return 48 + digit;
+        b'0' + digit
+    } else {
+        b'A' - 10 + digit
     }
-    55 + digit
 }
 
 // Writes the bytes of figures one after the other, the highest of each first.

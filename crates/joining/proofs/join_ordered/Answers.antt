@@ -28,7 +28,7 @@ pub returns-then-is_unlike : goal.returns-then-is_unlike
 unfolding text_length
 returns-then-is_unlike c =
     unlike_refused _ _ _ _ _ c.requires _ c.lines_before-before.ensures c.if-lines-before.false _
-    c.least-common_length.ensures _ c.refused-then-is_unlike.ensures (sym c.is_unlike.ensures ∙ c.if-is_unlike.true)
+    c.min-common_length.ensures _ c.refused-then-is_unlike.ensures (sym c.is_unlike.ensures ∙ c.if-is_unlike.true)
 
 pub slice_bounds-write_parts-end : goal.slice_bounds-write_parts-end
 slice_bounds-write_parts-end c =
@@ -45,5 +45,5 @@ unfolding text_length
 returns c =
     same_step _ _ _ _
     (alike_written _ _ _ _ _ c.requires _ c.lines_before-before.ensures c.if-lines-before.false _
-    c.least-common_length.ensures (sym c.is_unlike.ensures ∙ c.if-is_unlike.false))
+    c.min-common_length.ensures (sym c.is_unlike.ensures ∙ c.if-is_unlike.false))
     c.write_parts.ensures
