@@ -1,5 +1,4 @@
 pub mod Allowance
-pub mod Arrays
 pub mod Benefits
 pub mod Bytes
 pub mod Case

@@ -1,13 +1,12 @@
-// The limits of a split: worked-down pensions, caps and prices. The figures of pensions stand in arrays of numbers, since no
-// array of structs can be lent.
-ghost use Rattle.std.specs.Prelude.{◌≡◌, true, cond, ℕ, ◌+◌, ◌*◌, ◌/◌, ◌≤◌, ◌<◌, eqb};
+// The limits of a split: worked-down pensions, caps and prices, and the row that they make of a pension.
+ghost use Rattle.std.specs.Prelude.{◌≡◌, cond, ℕ, ◌+◌, ◌*◌, ◌/◌, ◌≤◌, ◌<◌, eqb};
 ghost use Rattle.factors.specs.Commutation.{table1};
 ghost use Rattle.factors.specs.Effective.{FactorRange};
 ghost use Rattle.split.specs.declared.case.Head.{Head};
 ghost use Rattle.split.specs.Refusal.{age_of};
 ghost use Rattle.split.specs.Benefits.{worked_pension, worked_terms, limited_lump, quarter_lump, cap_of};
 ghost use Rattle.split.specs.Limits.{rounded_up, price_of};
-ghost use Rattle.split.specs.Working.{paid_thousandths, basis_of, AcceptedIn, multiple_benefit, increase_of, FourPlaces, columns, stored};
+ghost use Rattle.split.specs.Working.{paid_thousandths, basis_of, AcceptedIn, multiple_benefit, increase_of, no_row, row_of};
 
 use crate::case::{Head, Pension};
 use factors::effective::{Factor, FactorTerms};
@@ -19,6 +18,17 @@ pub struct Benefit {
     pub pension: YearlyPence,
     pub factor: Factor,
     pub cap: LumpPence,
+}
+
+// The row of a pension: the pension as the limits see it, the price of one penny of lump, the increase that gives a second
+// instalment, the lump it has been given, and whether its turn in the grant is still to come.
+#[derive(Clone, Copy)]
+pub struct PensionRow {
+    pub benefit: Benefit,
+    pub price: u64,
+    pub increase: u16,
+    pub lump: LumpPence,
+    pub waiting: bool,
 }
 
 // What the head of a case gives for each of its pensions: the age, Table 1's factor at it, and how many thousandths of a
@@ -171,34 +181,34 @@ fn increase_of(p: Pension) -> u16
     if p.kind == 2 { terms.increase } else { 0 }
 }
 
-// Stores the figures of a pension at its place, if it is accepted: P, top and bottom of E, the cap, the price of one penny
-// of lump, and the increase that gives a second instalment.
-pub fn store_figures(
-    accepted: bool,
-    basis: Basis,
-    p: Pension,
-    at: usize,
-    pensions: &mut [u32; 4],
-    tops: &mut [u64; 4],
-    bottoms: &mut [u64; 4],
-    caps: &mut [u32; 4],
-    prices: &mut [u64; 4],
-    increases: &mut [u16; 4],
-)
-    requires { (accepted ≡ true → AcceptedIn basis p) × (at < 4) × FourPlaces (columns pensions.old tops.old bottoms.old caps.old prices.old increases.old) }
-    ensures { (h : Head) → basis ≡ basis_of h → columns pensions.new tops.new bottoms.new caps.new prices.new increases.new ≡ cond accepted (stored h p at (columns pensions.old tops.old bottoms.old caps.old prices.old increases.old)) (columns pensions.old tops.old bottoms.old caps.old prices.old increases.old) }
+// The row of an accepted pension before its turn.
+pub fn row_of(basis: Basis, p: Pension) -> PensionRow
+    requires { AcceptedIn basis p }
+    ensures { (h : Head) → basis ≡ basis_of h → result ≡ row_of h p }
 {
-    if !accepted {
-        return;
-    }
     let benefit = benefit_of(basis, p);
-    let pension = benefit.pension;
-    let factor = benefit.factor;
-    let cap = benefit.cap;
-    pensions[at] = pension.0;
-    tops[at] = factor.top;
-    bottoms[at] = factor.bottom;
-    caps[at] = cap.0;
-    prices[at] = price_of(factor);
-    increases[at] = increase_of(p);
+    PensionRow {
+        benefit,
+        price: price_of(benefit.factor),
+        increase: increase_of(p),
+        lump: LumpPence(0),
+        waiting: true,
+    }
+}
+
+// The row that stands for none.
+pub fn no_row() -> PensionRow
+    ensures { result ≡ no_row }
+{
+    PensionRow {
+        benefit: Benefit {
+            pension: YearlyPence(0),
+            factor: Factor { top: 0, bottom: 0 },
+            cap: LumpPence(0),
+        },
+        price: 0,
+        increase: 0,
+        lump: LumpPence(0),
+        waiting: false,
+    }
 }

@@ -1,87 +1,71 @@
--- `work_out` goes through the pensions one by one: the first `i` were read, judged and summed, and held where none is refused.
-use Prim.Native.Nat.{ℕ, ◌+◌, ◌*◌, ◌≤◌, ◌<◌, zero-le}
-use mathlib.Core.Path.{◌≡◌, refl, ◌∙◌, ap}
-use native.Mathlib.Nat.{le_antisymm, lt_of_lt_of_le}
-use native.Mathlib.Numerals.{add-one-le}
-use native.Mathlib.Omega.{arith}
-use mir.Facts.{Fits-below}
+-- `work_out` goes through the pensions one by one: those before were read, judged and summed, and have their rows where none is refused.
+use Rattle.std.proofs.Common.{ℕ, ◌≡◌, ◌+◌, ◌*◌, ◌<◌, ◌≤◌, false, ◌&&◌, eqb, leb, length, List, refl, sym, ◌∙◌, ap, arith}
+use Rattle.std.proofs.Math.Nat.{le_antisymm}
 use Rattle.calendar.specs.Tests.{lowest}
+use Rattle.split.specs.declared.limits.PensionRow.{PensionRow}
 use Rattle.split.specs.Case.{case_length}
 use Rattle.split.specs.Conditions.{lower, pension_conditions}
-use Rattle.split.specs.Working.{columns}
-use Rattle.split.proofs.ListLoop.{fewer}
 use Rattle.split.proofs.WorkingLaws.{basis_age}
-use Rattle.split.proofs.PensionsLoop.{Gone, gone_none, one_worked, none_refused, gone_all, gone_above, gone_within}
+use Rattle.split.proofs.PensionsLoop.{Gone, gone_none, one_stored, one_passed, none_refused, gone_above, gone_within}
 use Rattle.split.proofs.pensions.work_out.Goals as goal
-use Rattle.split.proofs.pensions.work_out.Goals.{After-loop-i, After-lower_of-refused, After-struct_known-1, In-loop-i}
+use Rattle.split.proofs.pensions.work_out.Goals.{After-loop-row, After-lower_of-refused, then-refused-stated, else-refused-stated}
 
 pub head_refusal-refused-requires : goal.head_refusal-refused-requires
 head_refusal-refused-requires c = basis_age _ _ c.basis_of-basis.ensures
 
-pub loop-i-init : goal.loop-i-init
-loop-i-init c =
-    (zero-le, c.requires.0, zero-le, gone_none _ _ _ _ _ c.head_refusal-refused.ensures c.requires.2)
+pub loop-row-init : goal.loop-row-init
+loop-row-init c = record {
+  start = c.requires.start;
+  small = omega arith;
+  gone = gone_none _ _ _ _ c.args.rows.now c.head_refusal-refused.ensures;
+}
 
 pub pension_refusal-requires : goal.pension_refusal-requires
 pension_refusal-requires c = basis_age _ _ c.basis_of-basis.ensures
 
--- a place in the loop is one of the four
-place : (c : In-loop-i) → c.loop-i.i < 4
-place c = lt_of_lt_of_le c.loop-i-test.true c.requires.1
-
 -- the refusal so far is the lower of that of the pensions before and this one's
-judged : (c : After-lower_of-refused) → let test = c in
-    c.lower_of-refused.result ≡ lower test.loop-i.refused
-    (lowest 3 (pension_conditions test.args.head c.read_pension-read.result.value))
-judged c =
-    c.lower_of-refused.ensures
-    ∙ ap (λ (r : ℕ). lower c.loop-i.refused r) c.pension_refusal.ensures
+judged : (c : After-lower_of-refused)
+    → c.lower_of-refused.result
+    ≡ lower c.loop-row.refused (lowest 3 (pension_conditions c.args.head c.read_pension-read.result.value))
+judged c = c.lower_of-refused.ensures ∙ ap (lower c.loop-row.refused) c.pension_refusal.ensures
 
-pub store_figures-requires : goal.store_figures-requires
-store_figures-requires c = (
-  none_refused _ _ _ c.loop-i.refused _ c.loop-i.stated _ c.basis_of-basis.ensures
-      (judged ((goal.at.store_figures-requires c).After-lower_of-refused)) refl,
-  place ((goal.at.store_figures-requires c).In-loop-i),
-  c.loop-i.invariant.3.four,
-)
+pub row_of-requires : goal.row_of-requires
+row_of-requires c =
+    none_refused _ _ _ c.loop-row.refused _ c.loop-row.stated _ c.basis_of-basis.ensures
+    (judged ((goal.at.row_of-requires c).After-lower_of-refused)) refl c.if-refused-stated.true
 
--- the total is at most a full number for each pension
-grown : (c : After-struct_known-1) → let read = c in
-    let l = read.loop-i in
-    l.stated + read.read_pension-read.result.value.stated.0 ≤ (l.i + 1) * 4294967295
-grown c = omega arith
+pub loop-row-preserved : goal.loop-row-preserved
+loop-row-preserved c =
+    let l = c.loop-row in
+    let read = c.read_pension-read in
+    let judges = judged ((goal.at.loop-row-preserved c).After-lower_of-refused) in
+    record {
+      start = omega (arith, read.ensures.next, l.invariant.start);
+      small = omega (arith, l.invariant.small);
+      gone =
+          elim c.if-refused-stated.branch [
+            | then-refused-stated w ↦
+                rw w.rows-is
+                (one_stored l.invariant.gone read.result.value _ _ _ l.invariant.start read.ensures judges refl w.row_of.result
+                (omega (arith, l.auto.rows, c.loop-row-test.true)) (w.row_of.ensures _ c.basis_of-basis.ensures))
+            | else-refused-stated w ↦
+                rw w.rows-is
+                (one_passed l.invariant.gone read.result.value _ _ _ l.invariant.start read.ensures judges refl _ w.if-refused-stated.false)
+          ];
+    }
 
-pub loop-i-preserved : goal.loop-i-preserved
-loop-i-preserved c =
-    let l = c.loop-i in (
-      add-one-le c.loop-i-test.true,
-      omega (arith, c.read_pension-read.ensures.next, l.invariant.1),
-      grown ((goal.at.loop-i-preserved c).After-struct_known-1),
-      one_worked l.invariant.3 c.read_pension-read.result.value _ _ _ l.invariant.1 c.read_pension-read.ensures (judged ((goal.at.loop-i-preserved c).After-lower_of-refused))
-          refl _ _ refl (place ((goal.at.loop-i-preserved c).In-loop-i)) (c.store_figures.ensures _ c.basis_of-basis.ensures),
-    )
+-- after the loop all were gone through
+all : (c : After-loop-row) → c.loop-row.row-index ≡ length c.args.rows.now
+all c = omega (arith, c.loop-row.auto.row-index-end, c.loop-row-test.false)
 
--- after the loop all n were gone through
-gone : (c : After-loop-i) → let l = c.loop-i in
-    Gone c.args.head c.args.bytes.now c.args.n (case_length c.args.n) l.refused l.stated
-    (columns l.pensions l.tops l.bottoms l.caps l.prices l.increases)
-gone c =
-    let l = c.loop-i in
-    gone_all l.i _ _ _ _ (le_antisymm l.invariant.0 c.loop-i-test.false) l.invariant.1 l.invariant.3
+pub returns-then-stated-gt50000000-clause-worked : goal.returns-then-stated-gt50000000-clause-worked
+returns-then-stated-gt50000000-clause-worked c =
+    let l = c.loop-row in
+    gone_above l.invariant.gone l.invariant.start (all ((goal.at.returns-then-stated-gt50000000-clause-worked c).After-loop-row))
+    l.auto.rows _ (omega arith) c.lower_of-refused-then-stated-gt50000000.ensures
 
--- and the cursor stands behind them
-behind : (c : After-loop-i) → c.loop-i.next.at ≡ case_length c.args.n
-behind c = let l = c.loop-i in omega (arith, l.invariant.0, c.loop-i-test.false, l.invariant.1)
-
-pub returns-then-stated-gt50000000 : goal.returns-then-stated-gt50000000
-returns-then-stated-gt50000000 c =
-    (gone_above (gone ((goal.at.returns-then-stated-gt50000000 c).After-loop-i)) _ (omega arith) c.lower_of-refused-then-stated-gt50000000.ensures, behind ((goal.at.returns-then-stated-gt50000000 c).After-loop-i))
-
-pub returns-else-stated-gt50000000 : goal.returns-else-stated-gt50000000
-returns-else-stated-gt50000000 c = (gone_within (gone ((goal.at.returns-else-stated-gt50000000 c).After-loop-i)) (omega arith), behind ((goal.at.returns-else-stated-gt50000000 c).After-loop-i))
-
-pub overflow_add-i : goal.overflow_add-i
-overflow_add-i c = Fits-below tt (add-one-le (place ((goal.at.overflow_add-i c).In-loop-i)))
-
-pub loop-i-smaller : goal.loop-i-smaller
-loop-i-smaller c = fewer _ _ c.loop-i-test.true
+pub returns-else-stated-gt50000000-clause-worked : goal.returns-else-stated-gt50000000-clause-worked
+returns-else-stated-gt50000000-clause-worked c =
+    let l = c.loop-row in
+    gone_within l.invariant.gone l.invariant.start (all ((goal.at.returns-else-stated-gt50000000-clause-worked c).After-loop-row))
+    l.auto.rows (omega arith)

@@ -1,95 +1,109 @@
 -- `case_quote` is the definition `case_quote` of the pensions that were worked out and the amount that was read behind them: what
 -- each callee asks holds of an accepted case, and their promises compose.
-use Prim.Native.Nat.{ℕ}
-use mathlib.Core.Path.{◌≡◌, refl, sym, ◌∙◌, ap}
-use native.Mathlib.Omega.{arith}
-use lib.ListN.{take}
+use Rattle.std.proofs.Common.{ℕ, ◌≡◌, ◌≤◌, ◌<◌, length, take, map, refl, sym, ◌∙◌, ap, subst, arith}
+use Rattle.std.proofs.lemmas.List.{length-take-le}
 use Rattle.split.specs.declared.allowance.Allowance.{Allowance}
 use Rattle.split.specs.Benefits.{benefits_of}
 use Rattle.split.specs.Bytes.{FieldOf}
 use Rattle.split.specs.Case.{allowance_used_at, case_length}
 use Rattle.split.specs.Allowance.{allowance_of}
-use Rattle.split.specs.Grant.{grant}
+use Rattle.split.specs.Grant.{lumps_of, grant}
+use Rattle.split.specs.Working.{WorkedOut, row_of, row_in}
 use Rattle.split.proofs.Accepted.{Accepted, case_accepted}
 use Rattle.split.proofs.ReadingLaws.{RightLength, length_listed}
-use Rattle.split.proofs.RangesLaws.{lumps_small, shares_range}
-use Rattle.split.proofs.Granted.{pensions_small, price_positive, grant_worked, quote_made, case_refused, case_granted}
+use Rattle.split.proofs.Granted.{pensions_small, price_positive, rows_kept, grant_worked, lumps_granted_small, rows_range, quote_made, case_refused, case_granted}
 use Rattle.split.proofs.quoting.case_quote.Goals as goal
-use Rattle.split.proofs.quoting.case_quote.Goals.{After-grant_of, After-read_allowance_used-used, Else-worked-ne0, Start}
+use Rattle.split.proofs.quoting.case_quote.Goals.{After-grant_of, After-read_allowance_used-used, After-work_out-worked, Else-worked-ne0, Start}
 
 -- the length is a right one
 listed : (c : Start) → RightLength c.args.characters c.args.n
 listed c = length_listed _ _ c.requires.1
 
-pub work_out-worked-requires : goal.work_out-worked-requires
-work_out-worked-requires c = (
-  c.requires.0,
-  (listed ((goal.at.work_out-worked-requires c).Start)).counted.1,
-  record { pensions = refl; tops = refl; bottoms = refl; caps = refl; prices = refl; increases = refl },
-)
+pub slice_bounds-places-end : goal.slice_bounds-places-end
+slice_bounds-places-end c = (listed ((goal.at.slice_bounds-places-end c).Start)).counted.1
+
+pub slice_bounds-rows-end : goal.slice_bounds-rows-end
+slice_bounds-rows-end c = sym (length-take-le c.args.n _ (listed ((goal.at.slice_bounds-rows-end c).Start)).counted.1)
+
+-- n pensions were worked out
+worked : (c : After-work_out-worked)
+    → WorkedOut c.args.head c.args.bytes.now c.args.n c.work_out-worked.result.refusal c.work_out-worked.new.rows
+worked c =
+    subst
+    (λ (m : ℕ). WorkedOut c.args.head c.args.bytes.now m c.work_out-worked.result.refusal c.work_out-worked.new.rows)
+    (length-take-le c.args.n _ (listed ((goal.at.After-work_out-worked c).Start)).counted.1) c.work_out-worked.ensures.worked
+
+-- and the cursor stands behind them
+behind : (c : After-work_out-worked) → c.work_out-worked.result.next.at ≡ case_length c.args.n
+behind c =
+    c.work_out-worked.ensures.behind
+    ∙ ap case_length (length-take-le c.args.n _ (listed ((goal.at.After-work_out-worked c).Start)).counted.1)
 
 pub returns-then-worked-ne0 : goal.returns-then-worked-ne0
 returns-then-worked-ne0 c =
-    case_refused c.work_out-worked.ensures.0 _ (listed ((goal.at.returns-then-worked-ne0 c).Start)).long _ c.if-worked-ne0.true c.refused_quote.ensures
+    case_refused (worked ((goal.at.returns-then-worked-ne0 c).After-work_out-worked)) _
+    (listed ((goal.at.returns-then-worked-ne0 c).Start)).long _ c.if-worked-ne0.true c.refused_quote.ensures
 
--- past the test the case is accepted
-accepted : (c : Else-worked-ne0) → let worked = c in
-    Accepted worked.args.head worked.work_out-worked.ensures.0.pensions
-accepted c = case_accepted _ _ (sym c.work_out-worked.ensures.0.judged ∙ c.if-worked-ne0.false)
+-- past the test the case is accepted, and its pensions have their rows
+accepted : (c : Else-worked-ne0) → Accepted c.args.head (worked ((goal.at.Else-worked-ne0 c).After-work_out-worked)).pensions
+accepted c =
+    case_accepted _ _
+    (sym (worked ((goal.at.Else-worked-ne0 c).After-work_out-worked)).judged ∙ c.if-worked-ne0.false)
+
+made : (c : Else-worked-ne0)
+    → c.work_out-worked.new.rows
+    ≡ map (row_of c.args.head) (worked ((goal.at.Else-worked-ne0 c).After-work_out-worked)).pensions
+made c = (worked ((goal.at.Else-worked-ne0 c).After-work_out-worked)).made c.if-worked-ne0.false
 
 pub read_allowance_used-used-requires : goal.read_allowance_used-used-requires
 read_allowance_used-used-requires c =
     let l = listed ((goal.at.read_allowance_used-used-requires c).Start) in
-    (λ more. omega (arith, c.work_out-worked.ensures.1, l.field (omega (arith, c.work_out-worked.ensures.1))), omega (arith, l.short, l.counted))
+    let b = behind ((goal.at.read_allowance_used-used-requires c).After-work_out-worked) in
+    (λ more. omega (arith, b, l.field (omega (arith, b))), omega (arith, l.short, l.counted))
 
 -- what was read behind the pensions
-used : (c : After-read_allowance_used-used) → let start = c in
-    FieldOf start.args.bytes.now start.args.characters c.read_allowance_used-used.result.0
-    (λ s. allowance_used_at s (case_length start.args.n) start.args.characters)
+used : (c : After-read_allowance_used-used)
+    → FieldOf c.args.bytes.now c.args.characters c.read_allowance_used-used.result.0
+    (λ s. allowance_used_at s (case_length c.args.n) c.args.characters)
 used c s bytes within =
     c.read_allowance_used-used.ensures s bytes within
-    ∙ ap (λ (at : ℕ). allowance_used_at s at c.args.characters)
-    c.work_out-worked.ensures.1
+    ∙ ap (λ (at : ℕ). allowance_used_at s at c.args.characters) (behind ((goal.at.After-read_allowance_used-used c).After-work_out-worked))
 
-pub grant_of-requires : goal.grant_of-requires
-grant_of-requires c =
-    let few = (listed ((goal.at.grant_of-requires c).Start)).counted.1 in
-    let w = c.work_out-worked.ensures.0 in
-    let held = w.figures c.if-worked-ne0.false in (
-      few,
-      w.four.pensions,
-      pensions_small _ w.pensions _ _ held w.four w.counted few (accepted ((goal.at.grant_of-requires c).Else-worked-ne0)),
-      w.four.prices,
-      w.four.caps,
-      price_positive _ w.pensions _ _ held w.four w.counted few,
-      refl,
-    )
+pub grant_of-requires-clause-small : goal.grant_of-requires-clause-small
+grant_of-requires-clause-small c =
+    let e = (goal.at.grant_of-requires-clause-small c).Else-worked-ne0 in
+    pensions_small _ _ _ (made e) (accepted e)
 
--- the lumps are those of the grant
-granted : (c : After-grant_of) → let read = c in
-    let worked = read in
-    let start = worked in
-    take start.args.n c.grant_of.new.lumps
-    ≡ grant (allowance_of start.args.head.commencement read.read_allowance_used-used.result.0)
-    (benefits_of start.args.head worked.work_out-worked.ensures.0.pensions)
-granted c =
-    let w = c.work_out-worked.ensures.0 in
-    grant_worked _ w.pensions _ _ (w.figures c.if-worked-ne0.false) w.four w.counted (listed ((goal.at.After-grant_of c).Start)).counted.1 _ _ c.grant_of.ensures.0
-    ∙ ap (λ (a : Allowance). grant a (benefits_of c.args.head w.pensions)) c.allowance_of-allowance.ensures
+pub grant_of-requires-clause-priced : goal.grant_of-requires-clause-priced
+grant_of-requires-clause-priced c =
+    let e = (goal.at.grant_of-requires-clause-priced c).Else-worked-ne0 in
+    price_positive _ _ _ (made e)
 
 pub total_of-total-requires : goal.total_of-total-requires
 total_of-total-requires c =
-    ((listed ((goal.at.total_of-total-requires c).Start)).counted.1, c.grant_of.ensures.1, lumps_small _ _ _ (accepted ((goal.at.total_of-total-requires c).Else-worked-ne0)) _ (granted ((goal.at.total_of-total-requires c).After-grant_of)))
+    let e = (goal.at.total_of-total-requires c).Else-worked-ne0 in
+    lumps_granted_small _ _ _ (made e) _ _ c.grant_of.ensures.taken c.grant_of.ensures.kept (accepted e)
 
-pub shares_of-shares-requires : goal.shares_of-shares-requires
-shares_of-shares-requires c =
-    let w = c.work_out-worked.ensures.0 in
-    shares_range _ _ w.pensions _ _ _ (accepted ((goal.at.shares_of-shares-requires c).Else-worked-ne0)) (w.figures c.if-worked-ne0.false) w.four w.counted (listed ((goal.at.shares_of-shares-requires c).Start)).counted.1
-    c.grant_of.ensures.1 (granted ((goal.at.shares_of-shares-requires c).After-grant_of)) c.grant_of.ensures.2
+pub shares_of-shares-requires-clause-ranges : goal.shares_of-shares-requires-clause-ranges
+shares_of-shares-requires-clause-ranges c =
+    let e = (goal.at.shares_of-shares-requires-clause-ranges c).Else-worked-ne0 in
+    rows_range _ _ _ (made e) _ _ c.grant_of.ensures.taken c.grant_of.ensures.kept (accepted e)
+
+-- the lumps are those of the grant
+granted : (c : After-grant_of)
+    → lumps_of (map row_in c.grant_of.new.rows)
+    ≡ grant (allowance_of c.args.head.commencement c.read_allowance_used-used.result.0)
+    (benefits_of c.args.head (worked ((goal.at.After-grant_of c).After-work_out-worked)).pensions)
+granted c =
+    let ps = (worked ((goal.at.After-grant_of c).After-work_out-worked)).pensions in
+    grant_worked _ _ _ (made ((goal.at.After-grant_of c).Else-worked-ne0)) _ _ c.grant_of.ensures.taken c.grant_of.ensures.kept
+    ∙ ap (λ (a : Allowance). grant a (benefits_of c.args.head ps)) c.allowance_of-allowance.ensures
 
 pub returns : goal.returns
 returns c =
-    let w = c.work_out-worked.ensures.0 in
-    case_granted w _ (listed ((goal.at.returns c).Start)).long _ _ c.if-worked-ne0.false (used ((goal.at.returns c).After-read_allowance_used-used))
-    (quote_made _ w.pensions _ _ (w.figures c.if-worked-ne0.false) w.four w.counted (listed ((goal.at.returns c).Start)).counted.1 _ _ _ _
-    c.grant_of.ensures.1 (granted ((goal.at.returns c).After-grant_of)) c.total_of-total.ensures c.shares_of-shares.ensures)
+    let w = worked ((goal.at.returns c).After-work_out-worked) in
+    let kept = rows_kept _ _ _ (made ((goal.at.returns c).Else-worked-ne0)) _ _ c.grant_of.ensures.taken c.grant_of.ensures.kept in
+    case_granted w _ (listed ((goal.at.returns c).Start)).long _ _ c.if-worked-ne0.false
+    (used ((goal.at.returns c).After-read_allowance_used-used))
+    (quote_made _ w.pensions _ _ _ _ kept (granted ((goal.at.returns c).After-grant_of)) c.total_of-total.ensures
+    c.shares_of-shares.ensures)
