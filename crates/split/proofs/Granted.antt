@@ -1,20 +1,21 @@
--- The quote that the code makes of the figures of a case is the quote of the case: turns over prices and caps that columns hold
--- are its grant, and the refusal or the grant is that of every line that the pensions and the amount used were read from. Assumes
+-- The quote that the code makes of the rows of a case is the quote of the case: turns over the rows of its pensions are
+-- its grant, and the refusal or the grant is that of every line that the pensions and the amount used were read from. Assumes
 -- nothing.
-use Prim.Native.Nat.{ℕ, ◌*◌, ◌≤◌, ◌<◌}
-use mathlib.Core.Bool.{true}
+use Prim.Native.Nat.{ℕ, ◌+◌, ◌≤◌, ◌<◌}
 use mathlib.Core.List.{List, [], ◌∷◌, map}
-use mathlib.Core.Path.{◌≡◌, refl, sym, ◌∙◌, ap}
+use mathlib.Core.Path.{◌≡◌, refl, sym, ◌∙◌, ap, ap₂}
 use native.Mathlib.Nat.{le_trans}
 use native.Mathlib.Omega.{arith}
-use lib.ListN.{length, get_or, take, replicate, length-map}
-use lib.Seq.{take_all}
+use lib.ListN.{length, get_or, drop, length-map}
+use Rattle.std.specs.Prelude.{All}
+use Rattle.std.proofs.lemmas.List.{get_or-map}
+use Rattle.std.proofs.lemmas.List.Sums.{sum_by-cons}
 use borrow.Author.Tests.{eq-eqb, ne_eqb}
 use Rattle.factors.specs.declared.money.LumpPence.{LumpPence}
 use Rattle.split.specs.declared.allowance.Allowance.{Allowance}
 use Rattle.split.specs.declared.case.Head.{Head}
 use Rattle.split.specs.declared.case.Pension.{Pension}
-use Rattle.split.specs.declared.limits.Benefit.{Benefit}
+use Rattle.split.specs.declared.limits.PensionRow.{PensionRow}
 use Rattle.split.specs.declared.answers.Share.{Share}
 use Rattle.split.specs.Answers.{Quote}
 use Rattle.split.specs.Case.{no_pension, pensions_at, allowance_used_at, case_length}
@@ -22,74 +23,99 @@ use Rattle.split.specs.Bytes.{FieldOf}
 use Rattle.split.specs.Refusal.{age_of}
 use Rattle.split.specs.Benefits.{worked_pension, factor_of, benefit_of, benefits_of}
 use Rattle.split.specs.Allowance.{allowance_of}
-use Rattle.split.specs.Limits.{no_benefit, total, total_pension, price_of}
-use Rattle.split.specs.Grant.{row_of, turns, lumps_of, grant}
-use Rattle.split.specs.Arrays.{rows_in}
+use Rattle.split.specs.Limits.{total, total_pension, priced_limit}
+use Rattle.split.specs.Grant.{Row, turns, lumps_of, grant}
+use Rattle.split.specs.Grant.{row_of as start_of}
+use Rattle.split.specs.Ranges.{ShareRange}
 use Rattle.split.specs.Quote.{shares_of, padded, lumps_granted, granted_quote, refused_quote}
-use Rattle.split.specs.Working.{Columns, FourPlaces, Holds, WorkedOut, shares_in, case_quote}
+use Rattle.split.specs.Working.{multiple_benefit, no_row, row_of, row_in, before_turn, benefits_in, pension_total, lump_total, share_in, WorkedOut, case_quote}
 use Rattle.split.proofs.Accepted.{Accepted, accepted_pensions}
-use Rattle.split.proofs.ListLoop.{map_at}
 use Rattle.split.proofs.Prices.{price_floor}
-use Rattle.split.proofs.ArraysLaws.{rows_start}
-use Rattle.split.proofs.GrantLoop.{grant_made}
-use Rattle.split.proofs.WorkingLaws.{cap_held, price_held, shares_held}
+use Rattle.split.proofs.GrantLoop.{pensions_summed}
+use Rattle.split.proofs.RangesLaws.{lumps_small, shares_range}
+use Rattle.split.proofs.WorkingLaws.{share_worked}
 
--- the pensions that a column holds, together
-worked_total : (h : Head) (ps : List Pension) → total (map (worked_pension h) ps) ≡ total_pension (benefits_of h ps)
-unfolding benefit_of
-worked_total h [] = refl
-worked_total h (p ∷ ps) = omega (arith, worked_total h ps)
+-- the rows of pensions before their turns, as the grant has them, and together
+rows_start : (h : Head) (ps : List Pension) → map row_in (map (row_of h) ps) ≡ map start_of (benefits_of h ps)
+unfolding row_of multiple_benefit benefit_of
+rows_start h [] = refl
+rows_start h (p ∷ ps) = ap (λ (rs : List Row). start_of (benefit_of h p) ∷ rs) (rows_start h ps)
 
-module _ (h : Head) (ps : List Pension) (c : Columns) (n : ℕ) (held : Holds h ps c) (four : FourPlaces c) (counted : length ps ≡ n)
-    (few : n ≤ 4) where
-  pensions_summed : total (take n c.pensions) ≡ total_pension (benefits_of h ps)
-  pensions_summed = rw (← counted, held.pensions) (worked_total h ps)
+rows_total : (h : Head) (ps : List Pension) → total_pension (benefits_in (map (row_of h) ps)) ≡ total_pension (benefits_of h ps)
+unfolding row_of multiple_benefit benefit_of
+rows_total h [] = refl
+rows_total h (p ∷ ps) = ap (λ (t : ℕ). worked_pension h p + t) (rows_total h ps)
 
-  -- of an accepted case they are small
-  pub pensions_small : Accepted h ps → total (take n c.pensions) ≤ 50000000
-  pensions_small a = rw pensions_summed (accepted_pensions h ps a)
+-- none had its turn
+none_taken : (h : Head) (ps : List Pension) → map before_turn (map (row_of h) ps) ≡ map (row_of h) ps
+unfolding row_of
+none_taken h [] = refl
+none_taken h (p ∷ ps) = ap (λ (rows : List PensionRow). row_of h p ∷ rows) (none_taken h ps)
+
+-- the shares of rows of the pensions
+shares_made : (h : Head) (ps : List Pension) (rows : List PensionRow) → map before_turn rows ≡ map (row_of h) ps
+    → map share_in rows ≡ shares_of h ps (lumps_of (map row_in rows))
+shares_made h [] [] kept = refl
+shares_made h [] (r ∷ rows) kept = absurd (omega (arith, ap length kept))
+shares_made h (p ∷ ps) [] kept = absurd (omega (arith, ap length kept))
+shares_made h (p ∷ ps) (r ∷ rows) kept =
+    let same : before_turn r ≡ row_of h p = ap (λ (l : List PensionRow). get_or l 0 no_row) kept in
+    ap₂ ◌∷◌ (share_worked h p r same) (shares_made h ps rows (ap (drop 1) kept))
+
+-- and their lumps together
+lumps_total : (rows : List PensionRow) → lump_total rows ≡ total (lumps_of (map row_in rows))
+lumps_total [] = refl
+lumps_total (r ∷ rows) = sum_by-cons (λ (x : PensionRow). x.lump.0) r rows ∙ ap (λ (t : ℕ). r.lump.0 + t) (lumps_total rows)
+
+-- the rows that an accepted case is worked out to, before the grant
+module _ (h : Head) (ps : List Pension) (rows : List PensionRow) (made : rows ≡ map (row_of h) ps) where
+  -- their pensions are small
+  pub pensions_small : Accepted h ps → pension_total rows ≤ 50000000
+  pensions_small a = rw (← pensions_summed rows, made, rows_total h ps) (accepted_pensions h ps a)
 
   -- a price is above 0
-  pub price_positive : (j : ℕ) → j < n → 0 < get_or c.prices j 0
-  price_positive j place =
-      rw (price_held h ps c held j (rw counted place)) (omega (arith, price_floor (factor_of (age_of h) (get_or ps j no_pension))))
+  pub price_positive : All (λ (r : PensionRow). 0 < r.price) rows
+  unfolding row_of
+  price_positive j d place =
+      let inside : j < length ps = rw (made, length-map ps (row_of h)) at place in
+      rw (made, get_or-map (row_of h) ps j no_pension d inside)
+      (omega (arith, price_floor (factor_of (age_of h) (get_or ps j no_pension))))
 
-  rows : take n (rows_in c.prices c.caps (replicate 4 0) (replicate 4 true)) ≡ map row_of (benefits_of h ps)
-  unfolding benefit_of
-  rows =
-      let bs = benefits_of h ps in
-      let same : length bs ≡ length ps = length-map ps (benefit_of h) in
-      let at : (j : ℕ) → j < length bs → get_or bs j no_benefit ≡ benefit_of h (get_or ps j no_pension) =
-      λ j place. map_at (benefit_of h) ps j no_pension no_benefit (rw same at place)
-      in
-      rw (← counted, ← same)
-      (rows_start c.prices c.caps bs 4 four.prices four.caps (omega arith)
-      (λ j place. price_held h ps c held j (rw same at place) ∙ sym (ap (λ (b : Benefit). price_of b.factor) (at j place)))
-      (λ j place. cap_held h ps c held j (rw same at place) ∙ sym (ap (λ (b : Benefit). b.cap.0) (at j place))))
+  -- and after it
+  module _ (a : Allowance) (after : List PensionRow)
+      (taken : map row_in after ≡ turns (length rows) (map row_in rows) (priced_limit (benefits_in rows)) a)
+      (same : map before_turn after ≡ map before_turn rows) where
+    -- they are those of the pensions still
+    pub rows_kept : map before_turn after ≡ map (row_of h) ps
+    rows_kept = same ∙ ap (map before_turn) made ∙ none_taken h ps
 
-  -- as many turns as there are pensions are the grant
-  pub grant_worked : (a : Allowance) (lumps : List ℕ)
-      → lumps ≡ lumps_of (turns n (take n (rows_in c.prices c.caps (replicate 4 0) (replicate 4 true))) (20000000000 * total (take n c.pensions)) a)
-      → lumps ≡ grant a (benefits_of h ps)
-  grant_worked a lumps given =
-      grant_made a (benefits_of h ps) n _ _ lumps (length-map ps (benefit_of h) ∙ counted) rows
-      (ap (λ (t : ℕ). 20000000000 * t) pensions_summed) given
+    -- with the lumps of the grant
+    pub grant_worked : lumps_of (map row_in after) ≡ grant a (benefits_of h ps)
+    unfolding grant
+    grant_worked =
+        ap lumps_of taken
+        ∙ rw (made, rows_start h ps, rows_total h ps, length-map ps (row_of h), length-map ps (benefit_of h)) refl
 
-  -- the figures made one after the other are those of the grant
-  pub quote_made : (used : ℕ) (lumps : List ℕ) (sum : LumpPence) (shares : List Share) → length lumps ≡ 4
-      → take n lumps ≡ grant (allowance_of h.commencement used) (benefits_of h ps)
-      → sum.0 ≡ total (take n lumps) → shares ≡ padded (shares_in c.pensions c.tops c.bottoms c.increases lumps n)
-      → ◌≡◌ {A = Quote} (record { refusal = 0; member = h.member; total = sum; shares = shares }) (granted_quote h ps used)
-  unfolding granted_quote lumps_granted
-  quote_made used lumps sum shares places granted summed shared =
-      let all : take n ps ≡ ps = take_all n ps (omega arith) in
-      let made : shares ≡ padded (shares_of h ps (grant (allowance_of h.commencement used) (benefits_of h ps))) =
-      rw (shares_held h ps c lumps held n (omega arith) (omega arith), all, granted) at shared
-      in
-      λ i. record { refusal = 0; member = h.member; total = record { 0 = (summed ∙ ap total granted) i }; shares = made i }
+    pub lumps_granted_small : Accepted h ps → lump_total after ≤ 1000000000
+    lumps_granted_small accepted = rw (lumps_total after) (lumps_small a h ps accepted (lumps_of (map row_in after)) grant_worked)
+
+    pub rows_range : Accepted h ps → All ShareRange after
+    rows_range accepted = shares_range a h ps after accepted rows_kept grant_worked
+
+-- the figures made one after the other are those of the grant
+pub quote_made : (h : Head) (ps : List Pension) (used : ℕ) (rows : List PensionRow) (sum : LumpPence) (shares : List Share)
+    → map before_turn rows ≡ map (row_of h) ps
+    → lumps_of (map row_in rows) ≡ grant (allowance_of h.commencement used) (benefits_of h ps) → sum.0 ≡ lump_total rows
+    → shares ≡ padded (map share_in rows)
+    → ◌≡◌ {A = Quote} (record { refusal = 0; member = h.member; total = sum; shares = shares }) (granted_quote h ps used)
+unfolding granted_quote lumps_granted
+quote_made h ps used rows sum shares kept granted summed shared =
+    let total_made = summed ∙ lumps_total rows ∙ ap total granted in
+    let made = shared ∙ ap padded (shares_made h ps rows kept ∙ ap (shares_of h ps) granted) in
+    λ i. record { refusal = 0; member = h.member; total = record { 0 = total_made i }; shares = made i }
 
 -- of every line that the pensions, and behind them the amount used, were read from
-module _ {h : Head} {b : List ℕ} {n refused : ℕ} {c : Columns} (w : WorkedOut h b n refused c) (characters : ℕ)
+module _ {h : Head} {b : List ℕ} {n refused : ℕ} {rows : List PensionRow} (w : WorkedOut h b n refused rows) (characters : ℕ)
     (long : case_length n ≤ characters) (q : Quote) where
   pub case_refused : (refused ≡ 0 → ⊥) → q ≡ refused_quote refused
       → FieldOf b characters q (λ s. case_quote h (pensions_at s n) (allowance_used_at s (case_length n) characters))

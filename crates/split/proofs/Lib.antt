@@ -3,7 +3,6 @@
 -- back.
 pub mod Accepted
 pub mod AllowanceLaws
-pub mod ArraysLaws
 pub mod BenefitsLaws
 pub mod Best
 pub mod BytesLaws
@@ -27,7 +26,6 @@ pub mod OverlongLaws
 pub mod PensionsLoop
 pub mod Prices
 pub mod QuoteLaws
-pub mod QuotingLoop
 pub mod RangesLaws
 pub mod ReadingLaws
 pub mod Remaining

@@ -2,32 +2,34 @@
 -- lump, so that a lump gives up no more than the pension. Assumes nothing.
 use Prim.Native.Nat.{ℕ, ◌*◌, ◌/◌, ◌≤◌, ◌<◌}
 use mathlib.Core.Bool.{Bool, true, false, cond}
-use mathlib.Core.List.{List}
-use mathlib.Core.Path.{◌≡◌}
+use mathlib.Core.List.{List, map}
+use mathlib.Core.Path.{◌≡◌, sym, ◌∙◌, ap}
 use native.Mathlib.Nat.{div-le_of_le-mul, le-div_iff_mul-le}
 use native.Mathlib.Omega.{arith}
 use lib.Dec.{eqb}
-use lib.ListN.{length, get_or, take, length-map}
-use lib.Seq.{get_or-take}
+use lib.ListN.{length, get_or, length-map}
+use Rattle.std.specs.Prelude.{All}
+use Rattle.std.proofs.lemmas.List.{get_or-map}
 use Rattle.calendar.proofs.SumsLaws.{sum_at}
 use Rattle.split.specs.declared.allowance.Allowance.{Allowance}
 use Rattle.split.specs.declared.case.Head.{Head}
 use Rattle.split.specs.declared.case.Pension.{Pension}
 use Rattle.split.specs.declared.limits.Benefit.{Benefit}
+use Rattle.split.specs.declared.limits.PensionRow.{PensionRow}
 use Rattle.split.specs.Case.{no_pension}
 use Rattle.split.specs.Refusal.{age_of, unlisted}
 use Rattle.split.specs.Benefits.{worked_pension, factor_of, limited_lump, quarter_lump, benefit_of, benefits_of}
 use Rattle.split.specs.Limits.{no_benefit, total, WithinCaps}
-use Rattle.split.specs.Grant.{grant}
-use Rattle.split.specs.Ranges.{ShareRange, SharesRange}
-use Rattle.split.specs.Working.{multiple_factor, increase_of, Columns, FourPlaces, Holds}
+use Rattle.split.specs.Grant.{Row, lumps_of, grant}
+use Rattle.split.specs.Ranges.{LumpRange, ShareRange}
+use Rattle.split.specs.Working.{multiple_factor, increase_of, no_row, row_of, row_in, before_turn}
 use Rattle.split.proofs.Prices.{ring}
 use Rattle.split.proofs.Turns.{grant_capped}
 use Rattle.split.proofs.LimitsLaws.{total_capped, caps_at}
 use Rattle.split.proofs.ListLoop.{map_at}
 use Rattle.split.proofs.Accepted.{AcceptedPension, Accepted, factor_range, increase_small, accepted_caps}
 use Rattle.split.proofs.BenefitsLaws.{cap_quarter}
-use Rattle.split.proofs.WorkingLaws.{worked_range, given_up_worked, pension_held, factor_held, increase_held}
+use Rattle.split.proofs.WorkingLaws.{worked_range, given_up_worked, pension_worked, multiple_worked, increase_worked}
 
 -- a lump of at most a quarter's gives up at most the pension
 quarter_given_up : (lump pension top bottom : ℕ) → 0 < bottom → lump ≤ pension * top / (4 * bottom)
@@ -46,9 +48,9 @@ given_up_at_most h p a lump capped =
     (omega (arith, cap_quarter (limited_lump p) (worked_pension h p) e))
 
 -- the figures of an accepted pension are in range
-share_range : (h : Head) (p : Pension) → AcceptedPension h p → (lump : ℕ) → lump ≤ 1000000000
-    → lump ≤ (benefit_of h p).cap.0 → ShareRange (worked_pension h p) (multiple_factor h p) lump
-share_range h p a lump high capped =
+lump_range : (h : Head) (p : Pension) → AcceptedPension h p → (lump : ℕ) → lump ≤ 1000000000
+    → lump ≤ (benefit_of h p).cap.0 → LumpRange (worked_pension h p) (multiple_factor h p) lump
+lump_range h p a lump high capped =
     record {
       factor = worked_range h p (factor_range h p a);
       lump_high = high;
@@ -84,30 +86,32 @@ module _ (allowance : Allowance) (h : Head) (ps : List Pension) (a : Accepted h 
       (omega (arith, sum_at (λ (b : Benefit). b.cap.0) (benefits_of h ps) no_benefit j inside, accepted_caps h ps a))
 
   range_at : (j : ℕ) → j < length ps
-      → ShareRange (worked_pension h (get_or ps j no_pension)) (multiple_factor h (get_or ps j no_pension)) (get_or xs j 0)
+      → LumpRange (worked_pension h (get_or ps j no_pension)) (multiple_factor h (get_or ps j no_pension)) (get_or xs j 0)
   range_at j place =
-      share_range h (get_or ps j no_pension) (a.each j place) (get_or xs j 0) (omega (arith, capped_at j place, cap_small j place))
+      lump_range h (get_or ps j no_pension) (a.each j place) (get_or xs j 0) (omega (arith, capped_at j place, cap_small j place))
       (capped_at j place)
 
--- whose figures columns hold, and whose lumps are the first of four
-pub shares_range : (allowance : Allowance) (h : Head) (ps : List Pension) (c : Columns) (lumps : List ℕ) (n : ℕ) → Accepted h ps
-    → Holds h ps c → FourPlaces c → length ps ≡ n → n ≤ 4 → length lumps ≡ 4 → take n lumps ≡ grant allowance (benefits_of h ps)
-    → ((j : ℕ) → n ≤ j → j < 4 → get_or lumps j 0 ≡ 0)
-    → SharesRange c.pensions c.tops c.bottoms c.increases lumps n
-shares_range allowance h ps c lumps n a held four counted few places granted none =
+-- rows of the pensions, with those lumps
+pub shares_range : (allowance : Allowance) (h : Head) (ps : List Pension) (rows : List PensionRow) → Accepted h ps
+    → map before_turn rows ≡ map (row_of h) ps → lumps_of (map row_in rows) ≡ grant allowance (benefits_of h ps)
+    → All ShareRange rows
+shares_range allowance h ps rows a kept granted j d place =
+    let p = get_or ps j no_pension in
+    let r = get_or rows j d in
+    let counted : length rows ≡ length ps = sym (length-map rows before_turn) ∙ ap length kept ∙ length-map ps (row_of h) in
+    let inside : j < length ps = omega arith in
+    let same : before_turn r ≡ row_of h p =
+    sym (get_or-map before_turn rows j d no_row place)
+    ∙ ap (λ (l : List PensionRow). get_or l j no_row) kept
+    ∙ get_or-map (row_of h) ps j no_pension no_row inside
+    in
+    let lump : get_or (lumps_of (map row_in rows)) j 0 ≡ r.lump.0 =
+    get_or-map (λ (x : Row). x.lump.0) (map row_in rows) j (row_in d) 0 (rw (length-map rows row_in) place)
+    ∙ ap (λ (x : Row). x.lump.0) (get_or-map row_in rows j d (row_in d) place)
+    in
     record {
-      places = few;
-      pensions = four.pensions;
-      tops = four.tops;
-      bottoms = four.bottoms;
-      increases = four.increases;
-      lumps = places;
-      ranges = λ j place.
-          let inside : j < length ps = rw counted place in
-          rw (pension_held h ps c held j inside, factor_held h ps c held j inside, ← get_or-take n lumps j 0 place)
-          (range_at allowance h ps a (take n lumps) granted j inside);
-      small = λ j place.
-          let inside : j < length ps = rw counted place in
-          rw (increase_held h ps c held j inside) (second_small (get_or ps j no_pension) (a.each j inside).listed);
-      rest = none;
+      lump =
+          rw (pension_worked h p r same, multiple_worked h p r same, ← lump)
+          (range_at allowance h ps a (lumps_of (map row_in rows)) granted j inside);
+      increase = rw (increase_worked h p r same) (second_small p (a.each j inside).listed);
     }

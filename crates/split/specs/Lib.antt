@@ -1,6 +1,5 @@
 pub mod Allowance
 pub mod Answers
-pub mod Arrays
 pub mod Benefits
 pub mod Bytes
 pub mod Case

@@ -1,6 +1,6 @@
--- The figures of the pensions of a case as the code works them out, in a column of numbers for each figure, for the
--- contracts of private functions: the code can lend no array of structs. Nothing here has to be believed. Assumes nothing.
-use Rattle.std.specs.Prelude.{ℕ, zero, suc, ◌-◌, ◌*◌, ◌/◌, ◌≤◌, ◌<◌, cond, List, [], ◌∷◌, ◌++◌, map, ◌≡◌, ltb, eqb, length, get_or, take, set}
+-- The pensions of a case as the code works them out, with a row for each, for the contracts of private functions. Nothing here
+-- has to be believed. Assumes nothing.
+use Rattle.std.specs.Prelude.{ℕ, ◌-◌, ◌*◌, ◌/◌, ◌≤◌, true, false, cond, List, map, ◌≡◌, ltb, eqb, length, sum_by}
 use Rattle.calendar.specs.Calendar.{months, sixtieth_birthday}
 use Rattle.calendar.specs.Tests.{lowest}
 use Rattle.factors.specs.declared.effective.Factor.{Factor}
@@ -11,6 +11,7 @@ use Rattle.split.specs.declared.case.Head.{Head}
 use Rattle.split.specs.declared.case.Pension.{Pension}
 use Rattle.split.specs.declared.limits.Basis.{Basis}
 use Rattle.split.specs.declared.limits.Benefit.{Benefit}
+use Rattle.split.specs.declared.limits.PensionRow.{PensionRow}
 use Rattle.split.specs.declared.answers.Share.{Share}
 use Rattle.split.specs.Answers.{Quote}
 use Rattle.split.specs.Case.{pensions_at, case_length}
@@ -18,7 +19,8 @@ use Rattle.split.specs.Bytes.{FieldOf}
 use Rattle.split.specs.Refusal.{age_of, conditions}
 use Rattle.split.specs.Conditions.{pension_conditions}
 use Rattle.split.specs.Benefits.{worked_pension, factor_of, benefit_of}
-use Rattle.split.specs.Limits.{price_of}
+use Rattle.split.specs.Limits.{no_benefit, price_of}
+use Rattle.split.specs.Grant.{Row}
 use Rattle.split.specs.Quote.{granted_quote, refused_quote}
 
 -- how many thousandths of a 2015 pension are paid
@@ -50,101 +52,57 @@ multiple_benefit h p =
 unfoldable pub increase_of : Pension → ℕ
 increase_of p = cond (eqb p.kind 2) p.terms.increase 0
 
--- a column for each figure, with a place for each pension
-pub record Columns : Type 0 where
-  pub pensions : List ℕ
-  pub tops : List ℕ
-  pub bottoms : List ℕ
-  pub caps : List ℕ
-  pub prices : List ℕ
-  pub increases : List ℕ
+-- the row that stands for none
+abbrev pub no_row : PensionRow
+no_row = record { benefit = no_benefit; price = 0; increase = 0; lump = record { 0 = 0 }; waiting = false }
 
-abbrev pub columns : List ℕ → List ℕ → List ℕ → List ℕ → List ℕ → List ℕ → Columns
-columns ps ts bs cs qs xs =
-    record { pensions = ps; tops = ts; bottoms = bs; caps = cs; prices = qs; increases = xs }
-
-pub record FourPlaces (c : Columns) : Type 0 where
-  pub pensions : length c.pensions ≡ 4
-  pub tops : length c.tops ≡ 4
-  pub bottoms : length c.bottoms ≡ 4
-  pub caps : length c.caps ≡ 4
-  pub prices : length c.prices ≡ 4
-  pub increases : length c.increases ≡ 4
-
--- the figures of a pension stored at a place
-abbrev pub stored : Head → Pension → ℕ → Columns → Columns
-stored h p at c =
+-- the row of a pension before its turn
+unfoldable pub row_of : Head → Pension → PensionRow
+row_of h p =
     record {
-      pensions = set c.pensions at (worked_pension h p);
-      tops = set c.tops at (multiple_factor h p).top;
-      bottoms = set c.bottoms at (multiple_factor h p).bottom;
-      caps = set c.caps at (benefit_of h p).cap.0;
-      prices = set c.prices at (price_of (factor_of (age_of h) p));
-      increases = set c.increases at (increase_of p);
+      benefit = multiple_benefit h p;
+      price = price_of (factor_of (age_of h) p);
+      increase = increase_of p;
+      lump = record { 0 = 0 };
+      waiting = true;
     }
 
--- the first places of the columns hold the figures of these pensions
-pub record Holds (h : Head) (ps : List Pension) (c : Columns) : Type 0 where
-  pub pensions : take (length ps) c.pensions ≡ map (worked_pension h) ps
-  pub tops : take (length ps) c.tops ≡ map (λ (p : Pension). (multiple_factor h p).top) ps
-  pub bottoms : take (length ps) c.bottoms ≡ map (λ (p : Pension). (multiple_factor h p).bottom) ps
-  pub caps : take (length ps) c.caps ≡ map (λ (p : Pension). (benefit_of h p).cap.0) ps
-  pub prices : take (length ps) c.prices ≡ map (λ (p : Pension). price_of (factor_of (age_of h) p)) ps
-  pub increases : take (length ps) c.increases ≡ map increase_of ps
-
 -- what going through n pensions finds: the pensions themselves, whatever line they were read from, their refusal, and where
--- there is none their figures
-pub record WorkedOut (h : Head) (b : List ℕ) (n refused : ℕ) (c : Columns) : Type 0 where
+-- there is none their rows
+pub record WorkedOut (h : Head) (b : List ℕ) (n refused : ℕ) (rows : List PensionRow) : Type 0 where
   pub pensions : List Pension
   pub counted : length pensions ≡ n
   pub read : FieldOf b (case_length n) pensions (λ s. pensions_at s n)
   pub judged : refused ≡ lowest 3 (conditions h pensions)
-  pub four : FourPlaces c
-  pub figures : refused ≡ 0 → Holds h pensions c
+  pub made : refused ≡ 0 → rows ≡ map (row_of h) pensions
 
--- the share of a pension by its figures
-unfoldable pub share_in : ℕ → Factor → ℕ → ℕ → Share
-share_in pension e increase lump =
+-- a row as the grant has it
+abbrev pub row_in : PensionRow → Row
+row_in r = record { price = r.price; cap = r.benefit.cap; lump = r.lump; waiting = r.waiting }
+
+-- a row as it was before its turn
+abbrev pub before_turn : PensionRow → PensionRow
+before_turn r =
+    record { benefit = r.benefit; price = r.price; increase = r.increase; lump = record { 0 = 0 }; waiting = true }
+
+-- the pensions of rows
+abbrev pub benefits_in : List PensionRow → List Benefit
+benefits_in rows = map (λ (r : PensionRow). r.benefit) rows
+
+-- the pensions of rows together, and the lumps
+abbrev pub pension_total : List PensionRow → ℕ
+pension_total rows = sum_by (λ (r : PensionRow). r.benefit.pension.0) rows
+
+abbrev pub lump_total : List PensionRow → ℕ
+lump_total rows = sum_by (λ (r : PensionRow). r.lump.0) rows
+
+-- the share of a row
+abbrev pub share_in : PensionRow → Share
+share_in r =
     record {
-      lump = record { 0 = lump };
-      remaining = record { 0 = pension - lump * e.bottom / e.top };
-      second = record { 0 = lump * increase / 10000 };
-    }
-
--- the factor at a place of two columns
-abbrev pub factor_in : List ℕ → List ℕ → ℕ → Factor
-factor_in ts bs j = record { top = get_or ts j 0; bottom = get_or bs j 0 }
-
--- what a function gives at the first n places
-unfoldable pub placed : {A : Type 0} → (ℕ → A) → ℕ → List A
-placed f zero = []
-placed f (suc k) = placed f k ++ (f k ∷ [])
-
--- the shares of the first n pensions by their columns and lumps
-abbrev pub shares_in : List ℕ → List ℕ → List ℕ → List ℕ → List ℕ → ℕ → List Share
-shares_in ps ts bs is xs n =
-    placed (λ (k : ℕ). share_in (get_or ps k 0) (factor_in ts bs k) (get_or is k 0) (get_or xs k 0)) n
-
--- what remains of a pension, and its second instalment, by columns and lumps
-abbrev pub remaining_in : List ℕ → List ℕ → List ℕ → List ℕ → ℕ → ℕ
-remaining_in ps ts bs xs j = get_or ps j 0 - get_or xs j 0 * get_or bs j 0 / get_or ts j 0
-
-abbrev pub second_in : List ℕ → List ℕ → ℕ → ℕ
-second_in is xs j = get_or xs j 0 * get_or is j 0 / 10000
-
--- a column of four places holds what a function gives in the first n, and zeros in the others
-pub record FilledBy (f : ℕ → ℕ) (n : ℕ) (xs : List ℕ) : Type 0 where
-  pub size : length xs ≡ 4
-  pub made : (j : ℕ) → j < n → get_or xs j 0 ≡ f j
-  pub rest : (j : ℕ) → n ≤ j → j < 4 → get_or xs j 0 ≡ 0
-
--- the share at a place of three columns
-abbrev pub share_from_columns : List ℕ → List ℕ → List ℕ → ℕ → Share
-share_from_columns xs rs ss j =
-    record {
-      lump = record { 0 = get_or xs j 0 };
-      remaining = record { 0 = get_or rs j 0 };
-      second = record { 0 = get_or ss j 0 };
+      lump = r.lump;
+      remaining = record { 0 = r.benefit.pension.0 - r.lump.0 * r.benefit.factor.bottom / r.benefit.factor.top };
+      second = record { 0 = r.lump.0 * r.increase / 10000 };
     }
 
 -- the quote of a case

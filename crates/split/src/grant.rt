@@ -1,12 +1,14 @@
 // The grant: lowest price first, equal prices in line order, each pension the most its cap, what is left of the priced limit
-// and what is left of the allowance allow. Figures of pensions stand in arrays of numbers, since no array of structs can be lent.
-ghost use Rattle.std.specs.Prelude.{◌≡◌, true, List, ℕ, ◌*◌, ◌/◌, ◌≤◌, ◌<◌, min, length, get_or, take, replicate};
-ghost use Rattle.split.specs.Limits.{total};
-ghost use Rattle.split.specs.Grant.{Row, goes_first, cheapest, turns, lumps_of};
-ghost use Rattle.split.specs.Arrays.{rows_in};
+// and what is left of the allowance allow.
+ghost use Rattle.std.specs.Prelude.{◌≡◌, ◌*◌, ◌/◌, ◌≤◌, ◌<◌, min, length, map, All, MatchOption};
+ghost use Rattle.split.specs.declared.limits.PensionRow.{PensionRow};
+ghost use Rattle.split.specs.Limits.{priced_limit};
+ghost use Rattle.split.specs.Grant.{Row, goes_first, cheapest, turns};
+ghost use Rattle.split.specs.Working.{benefits_in, row_in, before_turn, pension_total};
 
 use crate::allowance;
 use crate::allowance::Allowance;
+use crate::limits::PensionRow;
 use factors::money::LumpPence;
 
 // Whether a price has its turn before one behind it: lowest price first, equal prices in line order.
@@ -16,21 +18,19 @@ fn goes_first(price: u64, behind: u64) -> bool
     price <= behind
 }
 
-// The place of the first waiting pension of the lowest price among the first n; n where none waits.
-fn cheapest_place(prices: &[u64; 4], waiting: &[bool; 4], n: usize) -> usize
-    requires { (n ≤ 4) × (length prices.now ≡ 4) × (length waiting.now ≡ 4) }
-    ensures { (caps lumps : List ℕ) → length caps ≡ 4 → length lumps ≡ 4 → result ≡ cheapest (take n (rows_in prices.now caps lumps waiting.now)) }
+// The place of the first waiting row of the lowest price, if one waits.
+fn cheapest_place(rows: &[PensionRow]) -> Option<usize>
+    ensures { MatchOption result (cheapest (map row_in rows.now) ≡ length rows.now) (λ place. (place < length rows.now) × (place ≡ cheapest (map row_in rows.now))) }
 {
-    let mut best = n;
-    let mut i = n;
-    while 0 < i {
-        i -= 1;
-        if waiting[i] {
-            if best == n {
-                best = i;
-            } else if goes_first(prices[i], prices[best]) {
-                best = i;
-            }
+    let mut best: Option<usize> = None;
+    for i in (0..rows.len()).rev() {
+        let row = &rows[i];
+        let first = match best {
+            Some(place) => goes_first(row.price, rows[place].price),
+            None => true,
+        };
+        if row.waiting & first {
+            best = Some(i);
         }
     }
     best
@@ -48,64 +48,36 @@ fn most_of(cap: LumpPence, price: u64, left: u64) -> LumpPence
     LumpPence(affordable as u32)
 }
 
-// The first n pensions have their turns one after the other, and are given their lumps.
-fn take_turns(
-    prices: &[u64; 4],
-    caps: &[u32; 4],
-    n: usize,
-    limit: u64,
-    allowance: Allowance,
-    lumps: &mut [u32; 4],
-)
-    requires { (n ≤ 4) × (length prices.now ≡ 4) × (length caps.now ≡ 4) × ((j : ℕ) → j < n → 0 < get_or prices.now j 0) × (lumps.old ≡ replicate 4 0) }
-    ensures { (take n lumps.new ≡ lumps_of (turns n (take n (rows_in prices.now caps.now (replicate 4 0) (replicate 4 true))) limit allowance)) × (length lumps.new ≡ 4) × ((j : ℕ) → n ≤ j → j < 4 → get_or lumps.new j 0 ≡ 0) }
+// The rows have their turns one after the other, and are given their lumps.
+fn take_turns(rows: &mut [PensionRow], limit: u64, allowance: Allowance)
+    requires { All (λ r. 0 < r.price) rows.old }
+    ensures taken { map row_in rows.new ≡ turns (length rows.old) (map row_in rows.old) limit allowance }
+    ensures kept { map before_turn rows.new ≡ map before_turn rows.old }
 {
-    let mut waiting = [true; 4];
     let mut left = limit;
-    let mut allowance_left = allowance;
-    let mut done = 0;
-    while done < n {
-        let place = cheapest_place(prices, &waiting, n);
-        if n <= place {
+    let mut rest = allowance;
+    for _ in 0..rows.len() {
+        let Some(place) = cheapest_place(rows) else {
             return;
-        }
-        let price = prices[place];
-        let most = most_of(LumpPence(caps[place]), price, left);
-        let lump = allowance::allowed_lump(allowance_left, most);
-        lumps[place] = lump.0;
-        waiting[place] = false;
-        let spent = lump.0 as u64 * price;
+        };
+        let row = &mut rows[place];
+        let most = most_of(row.benefit.cap, row.price, left);
+        let lump = allowance::allowed_lump(rest, most);
+        row.lump = lump;
+        row.waiting = false;
+        let spent = lump.0 as u64 * row.price;
         left -= spent;
-        allowance_left = allowance::after_lump(allowance_left, lump);
-        done += 1;
+        rest = allowance::after_lump(rest, lump);
     }
 }
 
-// Grants the first n pensions their lumps, which are zero before: the priced limit is that of the pensions together, and the
-// allowance that of their case.
-pub fn grant_of(
-    pensions: &[u32; 4],
-    prices: &[u64; 4],
-    caps: &[u32; 4],
-    n: usize,
-    allowance: Allowance,
-    lumps: &mut [u32; 4],
-)
-    requires { (n ≤ 4) × (length pensions.now ≡ 4) × (total (take n pensions.now) ≤ 50000000) × (length prices.now ≡ 4) × (length caps.now ≡ 4) × ((j : ℕ) → j < n → 0 < get_or prices.now j 0) × (lumps.old ≡ replicate 4 0) }
-    ensures { (take n lumps.new ≡ lumps_of (turns n (take n (rows_in prices.now caps.now (replicate 4 0) (replicate 4 true))) (20000000000 * total (take n pensions.now)) allowance)) × (length lumps.new ≡ 4) × ((j : ℕ) → n ≤ j → j < 4 → get_or lumps.new j 0 ≡ 0) }
+// Grants rows their lumps: the priced limit is that of the pensions together, and the allowance that of their case.
+pub fn grant_of(rows: &mut [PensionRow], allowance: Allowance)
+    requires small { pension_total rows.old ≤ 50000000 }
+    requires priced { All (λ r. 0 < r.price) rows.old }
+    ensures taken { map row_in rows.new ≡ turns (length rows.old) (map row_in rows.old) (priced_limit (benefits_in rows.old)) allowance }
+    ensures kept { map before_turn rows.new ≡ map before_turn rows.old }
 {
-    let mut sum: u32 = 0;
-    let mut i = 0;
-    while i < n {
-        sum += pensions[i];
-        i += 1;
-    }
-    take_turns(
-        prices,
-        caps,
-        n,
-        20000000000 * (sum as u64),
-        allowance,
-        lumps,
-    );
+    let sum: u32 = rows.iter().map(|row| row.benefit.pension.0).sum();
+    take_turns(rows, 20000000000 * (sum as u64), allowance);
 }

@@ -1,15 +1,15 @@
-// The limits of a split: worked-down pensions, caps and prices. The figures of pensions stand in arrays of numbers, since no
-// array of structs can be lent.
-ghost use Rattle.std.specs.Prelude.{◌≡◌, true, cond, ℕ, ◌+◌, ◌*◌, ◌/◌, ◌≤◌, ◌<◌, eqb};
+// The limits of a split: worked-down pensions, caps and prices, and the row that they make of a pension.
+ghost use Rattle.std.specs.Prelude.{◌≡◌, cond, ℕ, ◌+◌, ◌*◌, ◌/◌, ◌≤◌, ◌<◌, eqb};
 ghost use Rattle.factors.specs.Commutation.{table1};
 ghost use Rattle.factors.specs.Effective.{FactorRange};
 ghost use Rattle.split.specs.declared.case.Head.{Head};
 ghost use Rattle.split.specs.Refusal.{age_of};
 ghost use Rattle.split.specs.Benefits.{worked_pension, worked_terms, limited_lump, quarter_lump, cap_of};
 ghost use Rattle.split.specs.Limits.{rounded_up, price_of};
-ghost use Rattle.split.specs.Working.{paid_thousandths, basis_of, AcceptedIn, multiple_benefit, increase_of, FourPlaces, columns, stored};
+ghost use Rattle.split.specs.Working.{paid_thousandths, basis_of, AcceptedIn, multiple_benefit, increase_of, no_row, row_of};
 
 use crate::case::{Head, Pension};
+use crate::kind::Kind;
 use factors::effective::{Factor, FactorTerms};
 use factors::money::{LumpPence, YearlyPence};
 
@@ -19,6 +19,17 @@ pub struct Benefit {
     pub pension: YearlyPence,
     pub factor: Factor,
     pub cap: LumpPence,
+}
+
+// The row of a pension: the pension as the limits see it, the price of one penny of lump, the increase that gives a second
+// instalment, the lump it has been given, and whether its turn in the grant is still to come.
+#[derive(Clone, Copy)]
+pub struct PensionRow {
+    pub benefit: Benefit,
+    pub price: u64,
+    pub increase: u16,
+    pub lump: LumpPence,
+    pub waiting: bool,
 }
 
 // What the head of a case gives for each of its pensions: the age, Table 1's factor at it, and how many thousandths of a
@@ -36,9 +47,7 @@ fn paid_thousandths(head: Head, age: u32) -> u16
     ensures { result ≡ paid_thousandths head }
 {
     if age < 720 {
-        let birth = head.birth;
-        let commencement = head.commencement;
-        let months = calendar::months_to_sixtieth_birthday(birth, commencement);
+        let months = calendar::months_to_sixtieth_birthday(head.birth, head.commencement);
         return factors::early_payment::early_payment_factor(months);
     }
     1000
@@ -47,19 +56,21 @@ fn paid_thousandths(head: Head, age: u32) -> u16
 pub fn basis_of(head: Head) -> Basis
     ensures { result ≡ basis_of head }
 {
-    let birth = head.birth;
-    let commencement = head.commencement;
-    let age = calendar::months_between(birth, commencement);
+    let age = calendar::months_between(head.birth, head.commencement);
     let found = factors::commutation::table_factor(age);
     let paid = paid_thousandths(head, age);
     Basis { age, found, paid }
 }
 
-// Those of a pension of a kind: any but a 2015 pension is kept whole.
-fn thousandths_of(kind: u8, paid: u16) -> u16
-    ensures { result ≡ cond (eqb kind 3) paid 1000 }
+// Those of a pension: any but a 2015 pension is kept whole.
+fn thousandths_of(p: Pension, paid: u16) -> u16
+    ensures { result ≡ cond (eqb p.kind 3) paid 1000 }
 {
-    if kind == 3 { paid } else { 1000 }
+    if p.is_of(Kind::Service2015) {
+        paid
+    } else {
+        1000
+    }
 }
 
 // The part of a stated pension that is paid, down to the penny.
@@ -77,8 +88,7 @@ fn worked_pension(paid: u16, p: Pension) -> YearlyPence
     requires { paid ≤ 1000 }
     ensures { (h : Head) → paid ≡ paid_thousandths h → result.0 ≡ worked_pension h p }
 {
-    let stated = p.stated;
-    paid_part(stated, thousandths_of(p.kind, paid))
+    paid_part(p.stated, thousandths_of(p, paid))
 }
 
 // The terms with F1 as given, or as it was looked up at the age.
@@ -98,12 +108,9 @@ fn worked_terms(found: u16, t: FactorTerms) -> FactorTerms
 fn is_limited(p: Pension) -> bool
     ensures { result ≡ limited_lump p }
 {
-    let service = p.service;
-    let start = service.start;
-    let end = service.end;
-    let months = calendar::months_between(start, end);
-    let first = p.kind == 1;
-    let second = p.kind == 2;
+    let months = calendar::months_between(p.service.start, p.service.end);
+    let first = p.is_of(Kind::Service1987);
+    let second = p.is_of(Kind::AfterBreak1987);
     (first | second) & (((300 <= months) & (months <= 359)) & (p.lift == 0))
 }
 
@@ -121,13 +128,8 @@ fn cap_of(limited: bool, pension: YearlyPence, e: Factor) -> LumpPence
     ensures { result.0 ≡ cap_of limited pension.0 e }
 {
     let quarter = quarter_lump(pension, e);
-    let most = if limited {
-        9 * pension.0 / 4
-    } else {
-        quarter.0
-    };
-    let lower = if most < quarter.0 { most } else { quarter.0 };
-    LumpPence(lower)
+    let lower = quarter.0.min(9 * pension.0 / 4);
+    LumpPence(if limited { lower } else { quarter.0 })
 }
 
 // An accepted pension as the limits see it, with E as one top over one bottom whatever the kind.
@@ -136,8 +138,7 @@ fn benefit_of(basis: Basis, p: Pension) -> Benefit
     ensures { (h : Head) → basis ≡ basis_of h → result ≡ multiple_benefit h p }
 {
     let pension = worked_pension(basis.paid, p);
-    let given = p.terms;
-    let terms = worked_terms(basis.found, given);
+    let terms = worked_terms(basis.found, p.terms);
     let factor = factors::effective::effective_factor(p.kind, terms);
     let cap = cap_of(is_limited(p), pension, factor);
     Benefit {
@@ -167,38 +168,41 @@ fn price_of(e: Factor) -> u64
 fn increase_of(p: Pension) -> u16
     ensures { result ≡ increase_of p }
 {
-    let terms = p.terms;
-    if p.kind == 2 { terms.increase } else { 0 }
+    if p.is_of(Kind::AfterBreak1987) {
+        p.terms.increase
+    } else {
+        0
+    }
 }
 
-// Stores the figures of a pension at its place, if it is accepted: P, top and bottom of E, the cap, the price of one penny
-// of lump, and the increase that gives a second instalment.
-pub fn store_figures(
-    accepted: bool,
-    basis: Basis,
-    p: Pension,
-    at: usize,
-    pensions: &mut [u32; 4],
-    tops: &mut [u64; 4],
-    bottoms: &mut [u64; 4],
-    caps: &mut [u32; 4],
-    prices: &mut [u64; 4],
-    increases: &mut [u16; 4],
-)
-    requires { (accepted ≡ true → AcceptedIn basis p) × (at < 4) × FourPlaces (columns pensions.old tops.old bottoms.old caps.old prices.old increases.old) }
-    ensures { (h : Head) → basis ≡ basis_of h → columns pensions.new tops.new bottoms.new caps.new prices.new increases.new ≡ cond accepted (stored h p at (columns pensions.old tops.old bottoms.old caps.old prices.old increases.old)) (columns pensions.old tops.old bottoms.old caps.old prices.old increases.old) }
+// The row of an accepted pension before its turn.
+pub fn row_of(basis: Basis, p: Pension) -> PensionRow
+    requires { AcceptedIn basis p }
+    ensures { (h : Head) → basis ≡ basis_of h → result ≡ row_of h p }
 {
-    if !accepted {
-        return;
-    }
     let benefit = benefit_of(basis, p);
-    let pension = benefit.pension;
-    let factor = benefit.factor;
-    let cap = benefit.cap;
-    pensions[at] = pension.0;
-    tops[at] = factor.top;
-    bottoms[at] = factor.bottom;
-    caps[at] = cap.0;
-    prices[at] = price_of(factor);
-    increases[at] = increase_of(p);
+    PensionRow {
+        benefit,
+        price: price_of(benefit.factor),
+        increase: increase_of(p),
+        lump: LumpPence(0),
+        waiting: true,
+    }
+}
+
+// The row that stands for none.
+pub fn no_row() -> PensionRow
+    ensures { result ≡ no_row }
+{
+    PensionRow {
+        benefit: Benefit {
+            pension: YearlyPence(0),
+            factor: Factor { top: 0, bottom: 0 },
+            cap: LumpPence(0),
+        },
+        price: 0,
+        increase: 0,
+        lump: LumpPence(0),
+        waiting: false,
+    }
 }

@@ -1,47 +1,41 @@
 // The pensions of a case one after the other: each is read, held to the rules, and worked out.
-ghost use Rattle.std.specs.Prelude.{◌≡◌, ◌≤◌, IfOk};
+ghost use Rattle.std.specs.Prelude.{◌≡◌, ◌≤◌, length, IfOk};
 ghost use Rattle.refusals.specs.Numbers.{refusal_number};
 ghost use Rattle.split.specs.Case.{head_length, case_length};
-ghost use Rattle.split.specs.Working.{FourPlaces, columns, WorkedOut};
+ghost use Rattle.split.specs.Working.{WorkedOut};
 
 use crate::case::Head;
 use crate::frame::{Cursor, LONGEST};
+use crate::limits::PensionRow;
 use crate::{case, limits, refusal};
 use refusals::Refusal;
 
-// Refusals 3 to 10 of a case with n pensions, the first of which is where the cursor stands; and where there is none, the
-// figures of each pension at its place, and the cursor behind the last. One loop does it all, so that no pension is kept.
+// Refusals 3 to 10 of a case with a pension for each row, the first of which is where the cursor stands; and where there is
+// none, the row of each pension and the cursor behind the last. One loop does it all, so that no pension is kept.
 pub fn work_out(
     bytes: &[u8; LONGEST],
     at: Cursor,
     head: Head,
-    n: usize,
-    pensions: &mut [u32; 4],
-    tops: &mut [u64; 4],
-    bottoms: &mut [u64; 4],
-    caps: &mut [u32; 4],
-    prices: &mut [u64; 4],
-    increases: &mut [u16; 4],
+    rows: &mut [PensionRow],
 ) -> Result<Cursor, Refusal>
-    requires { (at.at ≡ head_length) × (n ≤ 4) × FourPlaces (columns pensions.old tops.old bottoms.old caps.old prices.old increases.old) }
-    ensures { WorkedOut head bytes.now n (refusal_number result) (columns pensions.new tops.new bottoms.new caps.new prices.new increases.new) × IfOk result (λ next. next.at ≡ case_length n) }
+    requires start { at.at ≡ head_length }
+    requires few { length rows.old ≤ 4 }
+    ensures worked { WorkedOut head bytes.now (length rows.old) (refusal_number result) rows.new }
+    ensures behind { IfOk result (λ next. next.at ≡ case_length (length rows.old)) }
 {
     let basis = limits::basis_of(head);
     let mut refused = refusal::head_refusal(head, basis.age);
     let mut stated: u64 = 0;
     let mut next = at;
-    let mut i = 0;
-    while i < n {
+    for row in rows.iter_mut() {
         let read = case::read_pension(bytes, next);
         let p = read.value;
         refused = refusal::lower_of(refused, refusal::pension_refusal(head, basis.age, p));
         stated += p.stated.0 as u64;
-        let accepted = refused.is_ok() & (stated <= 50000000);
-        limits::store_figures(
-            accepted, basis, p, i, pensions, tops, bottoms, caps, prices, increases,
-        );
+        if refused.is_ok() & (stated <= 50000000) {
+            *row = limits::row_of(basis, p);
+        }
         next = read.next;
-        i += 1;
     }
     if 50000000 < stated {
         refused = refusal::lower_of(refused, Err(Refusal::PensionOutsideRange));

@@ -1,17 +1,17 @@
 // Making a quote: the lump sums granted, what remains of each pension, and the second instalments.
-ghost use Rattle.std.specs.Prelude.{◌≡◌, false, ◌-◌, ◌*◌, ◌/◌, ◌≤◌, length, take, replicate};
+ghost use Rattle.std.specs.Prelude.{◌≡◌, false, ◌-◌, ◌*◌, ◌/◌, ◌≤◌, length, map, All};
 ghost use Rattle.split.specs.Case.{pensions_at, allowance_used_at, head_length, case_length};
 ghost use Rattle.split.specs.Bytes.{FieldOf};
 ghost use Rattle.split.specs.Refusal.{bad_length};
-ghost use Rattle.split.specs.Limits.{total};
 ghost use Rattle.split.specs.Quote.{padded, no_share, answered};
-ghost use Rattle.split.specs.Working.{placed, shares_in, remaining_in, second_in, FilledBy, share_from_columns, case_quote};
-ghost use Rattle.split.specs.Ranges.{ShareRange, SharesRange};
+ghost use Rattle.split.specs.Working.{share_in, lump_total, case_quote};
+ghost use Rattle.split.specs.Ranges.{LumpRange, ShareRange};
 
 use crate::answers::{Granted, Share};
 use crate::case::Head;
 use crate::frame::{Cursor, LONGEST};
-use crate::{allowance, case, grant, pensions};
+use crate::limits::PensionRow;
+use crate::{allowance, case, grant, limits, pensions};
 use factors::effective::Factor;
 use factors::money::{LumpPence, YearlyPence};
 use refusals::Refusal;
@@ -28,7 +28,7 @@ fn no_share() -> Share
 
 // What remains of a pension once a lump is taken.
 fn remaining_of(pension: YearlyPence, e: Factor, lump: LumpPence) -> YearlyPence
-    requires { ShareRange pension.0 e lump.0 }
+    requires { LumpRange pension.0 e lump.0 }
     ensures { result.0 ≡ pension.0 - lump.0 * e.bottom / e.top }
 {
     let given_up = lump.0 as u64 * e.bottom / e.top;
@@ -43,94 +43,38 @@ fn second_of(increase: u16, lump: LumpPence) -> LumpPence
     LumpPence((lump.0 as u64 * increase as u64 / 10000) as u32)
 }
 
-// Takes the lumps of the first n pensions off them: what remains of each, and its second instalment.
-fn take_off(
-    pensions: &[u32; 4],
-    tops: &[u64; 4],
-    bottoms: &[u64; 4],
-    increases: &[u16; 4],
-    lumps: &[u32; 4],
-    n: usize,
-    remaining: &mut [u32; 4],
-    seconds: &mut [u32; 4],
-)
-    requires { SharesRange pensions.now tops.now bottoms.now increases.now lumps.now n × (remaining.old ≡ replicate 4 0) × (seconds.old ≡ replicate 4 0) }
-    ensures { FilledBy (remaining_in pensions.now tops.now bottoms.now lumps.now) n remaining.new × FilledBy (second_in increases.now lumps.now) n seconds.new }
+// The share of a row that was given its lump.
+fn share_of(row: &PensionRow) -> Share
+    requires { ShareRange row.now }
+    ensures { result ≡ share_in row.now }
 {
-    let mut i = 0;
-    while i < n {
-        let factor = Factor {
-            top: tops[i],
-            bottom: bottoms[i],
-        };
-        let lump = LumpPence(lumps[i]);
-        let left = remaining_of(YearlyPence(pensions[i]), factor, lump);
-        let second = second_of(increases[i], lump);
-        remaining[i] = left.0;
-        seconds[i] = second.0;
-        i += 1;
+    let benefit = row.benefit;
+    Share {
+        lump: row.lump,
+        remaining: remaining_of(benefit.pension, benefit.factor, row.lump),
+        second: second_of(row.increase, row.lump),
     }
 }
 
-// The shares at four places, of which those without a pension are zeros. The loop's length is fixed, so that the compiler
-// makes them at once.
-fn shares_at(lumps: &[u32; 4], remaining: &[u32; 4], seconds: &[u32; 4]) -> [Share; 4]
-    requires { (length lumps.now ≡ 4) × (length remaining.now ≡ 4) × (length seconds.now ≡ 4) }
-    ensures { result ≡ placed (share_from_columns lumps.now remaining.now seconds.now) 4 }
+// The shares of rows, and zeros in the places after them.
+fn shares_of(rows: &[PensionRow]) -> [Share; 4]
+    requires few { length rows.now ≤ 4 }
+    requires ranges { All ShareRange rows.now }
+    ensures { result ≡ padded (map share_in rows.now) }
 {
     let mut shares = [no_share(); 4];
-    let mut i = 0;
-    while i < 4 {
-        let share = Share {
-            lump: LumpPence(lumps[i]),
-            remaining: YearlyPence(remaining[i]),
-            second: LumpPence(seconds[i]),
-        };
-        shares[i] = share;
-        i += 1;
+    for (i, row) in rows.iter().enumerate() {
+        shares[i] = share_of(row);
     }
     shares
 }
 
-// The figures of the first n pensions, and zeros in the places after them.
-fn shares_of(
-    pensions: &[u32; 4],
-    tops: &[u64; 4],
-    bottoms: &[u64; 4],
-    increases: &[u16; 4],
-    lumps: &[u32; 4],
-    n: usize,
-) -> [Share; 4]
-    requires { SharesRange pensions.now tops.now bottoms.now increases.now lumps.now n }
-    ensures { result ≡ padded (shares_in pensions.now tops.now bottoms.now increases.now lumps.now n) }
+// The lumps of rows together.
+fn total_of(rows: &[PensionRow]) -> LumpPence
+    requires { lump_total rows.now ≤ 1000000000 }
+    ensures { result.0 ≡ lump_total rows.now }
 {
-    let mut remaining = [0u32; 4];
-    let mut seconds = [0u32; 4];
-    take_off(
-        pensions,
-        tops,
-        bottoms,
-        increases,
-        lumps,
-        n,
-        &mut remaining,
-        &mut seconds,
-    );
-    shares_at(lumps, &remaining, &seconds)
-}
-
-// The first n lumps together.
-fn total_of(lumps: &[u32; 4], n: usize) -> LumpPence
-    requires { (n ≤ 4) × (length lumps.now ≡ 4) × (total (take n lumps.now) ≤ 1000000000) }
-    ensures { result.0 ≡ total (take n lumps.now) }
-{
-    let mut sum: u32 = 0;
-    let mut i = 0;
-    while i < n {
-        sum += lumps[i];
-        i += 1;
-    }
-    LumpPence(sum)
+    LumpPence(rows.iter().map(|row| row.lump.0).sum())
 }
 
 // The quote of a case with n pensions, the first of which is where the cursor stands, in a line of so many characters.
@@ -144,30 +88,14 @@ pub fn case_quote(
     requires { (at.at ≡ head_length) × (bad_length characters n ≡ false) }
     ensures { FieldOf bytes.now characters (answered result) (λ s. case_quote head (pensions_at s n) (allowance_used_at s (case_length n) characters)) }
 {
-    let mut pensions = [0u32; 4];
-    let mut tops = [0u64; 4];
-    let mut bottoms = [0u64; 4];
-    let mut caps = [0u32; 4];
-    let mut prices = [0u64; 4];
-    let mut increases = [0u16; 4];
-    let next = pensions::work_out(
-        bytes,
-        at,
-        head,
-        n,
-        &mut pensions,
-        &mut tops,
-        &mut bottoms,
-        &mut caps,
-        &mut prices,
-        &mut increases,
-    )?;
+    let mut places = [limits::no_row(); 4];
+    let rows = &mut places[..n];
+    let next = pensions::work_out(bytes, at, head, rows)?;
     let used = case::read_allowance_used(bytes, next, characters);
     let allowance = allowance::allowance_of(head.commencement, used);
-    let mut lumps = [0u32; 4];
-    grant::grant_of(&pensions, &prices, &caps, n, allowance, &mut lumps);
-    let total = total_of(&lumps, n);
-    let shares = shares_of(&pensions, &tops, &bottoms, &increases, &lumps, n);
+    grant::grant_of(rows, allowance);
+    let total = total_of(rows);
+    let shares = shares_of(rows);
     Ok(Granted {
         member: head.member,
         total,

@@ -1,25 +1,11 @@
--- `cap_of` is the definition `cap_of`: the lower of what was chosen and the quarter's lump.
-use Prim.Native.Nat.{ℕ, ◌*◌, ◌/◌}
-use mathlib.Core.Bool.{Bool, cond}
-use mathlib.Core.Path.{◌≡◌, sym, ◌∙◌, ap}
-use native.Mathlib.Omega.{arith}
-use Rattle.split.proofs.BenefitsLaws.{cap_chosen}
+-- `cap_of` is the definition `cap_of`, by whether the second cap applies.
+use Rattle.split.specs.Benefits.{cap_of}
 use Rattle.split.proofs.limits.cap_of.Goals as goal
-use Rattle.split.proofs.limits.cap_of.Goals.{Joined-limited, else-limited, then-limited}
 
--- what was chosen
-chosen : (c : Joined-limited) → let a = c.args in
-    c.if-limited.most ≡ cond a.limited (9 * a.pension.0 / 4) c.quarter_lump-quarter.result.0
-chosen c =
-    let pick : Bool → ℕ = λ limited. cond limited (9 * c.args.pension.0 / 4) c.quarter_lump-quarter.result.0 in
-    elim c.if-limited.branch [ then-limited w ↦ w.most-is ∙ ap pick (sym w.if-limited.true) | else-limited w ↦ w.most-is ∙ ap pick (sym w.if-limited.false) ]
+pub returns-then-limited : goal.returns-then-limited
+unfolding cap_of
+returns-then-limited c = simp (c.if-limited.true, c.min-lower.ensures, c.quarter_lump-quarter.ensures.0)
 
-pub returns-then-most-quarter : goal.returns-then-most-quarter
-returns-then-most-quarter c =
-    let a = c.args in
-    omega (arith, c.if-most-quarter.true, cap_chosen a.limited a.pension.0 _ _ a.e c.quarter_lump-quarter.ensures.0 (chosen ((goal.at.returns-then-most-quarter c).Joined-limited)))
-
-pub returns-else-most-quarter : goal.returns-else-most-quarter
-returns-else-most-quarter c =
-    let a = c.args in
-    omega (arith, c.if-most-quarter.false, cap_chosen a.limited a.pension.0 _ _ a.e c.quarter_lump-quarter.ensures.0 (chosen ((goal.at.returns-else-most-quarter c).Joined-limited)))
+pub returns-else-limited : goal.returns-else-limited
+unfolding cap_of
+returns-else-limited c = simp (c.if-limited.false, c.quarter_lump-quarter.ensures.0)

@@ -1,12 +1,11 @@
 -- `increase_of` is the definition `increase_of`, by the kind.
-use borrow.Author.Tests.{eq-eqb, ne_eqb}
 use Rattle.split.specs.Working.{increase_of}
 use Rattle.split.proofs.limits.increase_of.Goals as goal
 
-pub returns-then-p-eq2 : goal.returns-then-p-eq2
+pub returns-then-is_of : goal.returns-then-is_of
 unfolding increase_of
-returns-then-p-eq2 c = simp (increase_of, eq-eqb _ _ c.if-p-eq2.true)
+returns-then-is_of c = simp (← c.is_of.ensures, c.if-is_of.true)
 
-pub returns-else-p-eq2 : goal.returns-else-p-eq2
+pub returns-else-is_of : goal.returns-else-is_of
 unfolding increase_of
-returns-else-p-eq2 c = simp (increase_of, ne_eqb _ _ c.if-p-eq2.false)
+returns-else-is_of c = simp (← c.is_of.ensures, c.if-is_of.false)

@@ -1,113 +1,93 @@
--- `work_out` goes through the pensions one by one: the first `i` were read, judged and summed, and held where none is refused.
-use Prim.Native.Nat.{ℕ, ◌+◌, ◌*◌, ◌≤◌, ◌<◌, zero-le}
-use mathlib.Core.Bool.{Bool, ◌&&◌}
-use lib.Dec.{leb}
-use mathlib.Core.Path.{◌≡◌, refl, ◌∙◌, ap}
-use native.Mathlib.Nat.{le_antisymm, lt_of_lt_of_le}
-use native.Mathlib.Numerals.{add-one-le}
-use native.Mathlib.Omega.{arith}
-use mir.Facts.{Fits-below}
+-- `work_out` goes through the pensions one by one: those before were read, judged and summed, and have their rows where none is refused.
+use Rattle.std.proofs.Common.{ℕ, ◌≡◌, ◌+◌, ◌*◌, ◌<◌, ◌≤◌, false, ◌&&◌, eqb, leb, length, List, refl, sym, ◌∙◌, ap, arith}
+use Rattle.std.proofs.Math.Nat.{le_antisymm}
 use Rattle.std.proofs.Common.{nat_eq}
 use Rattle.std.proofs.lemmas.Result.{err_from_is_err_and}
 use Rattle.calendar.specs.Tests.{lowest}
 use Rattle.refusals.specs.Numbers.{refusal_number}
 use Rattle.refusals.proofs.NumbersLaws.{given}
+use Rattle.split.specs.declared.limits.PensionRow.{PensionRow}
 use Rattle.split.specs.Case.{case_length}
 use Rattle.split.specs.Conditions.{lower, pension_conditions}
-use Rattle.split.specs.Working.{columns, WorkedOut}
-use Rattle.split.proofs.ListLoop.{fewer}
+use Rattle.split.specs.Working.{WorkedOut}
 use Rattle.split.proofs.WorkingLaws.{basis_age}
-use Rattle.split.proofs.PensionsLoop.{Gone, gone_none, one_worked, none_refused, gone_all, gone_above, gone_within}
+use Rattle.split.proofs.PensionsLoop.{Gone, gone_none, one_stored, one_passed, none_refused, gone_above, gone_within}
 use Rattle.split.proofs.pensions.work_out.Goals as goal
-use Rattle.split.proofs.pensions.work_out.Goals.{After-loop-i, After-lower_of-refused, After-is_ok, In-loop-i, Joined-stated-gt50000000, then-stated-gt50000000, else-stated-gt50000000}
+use Rattle.split.proofs.pensions.work_out.Goals.{After-loop-row, After-lower_of-refused, After-is_ok, Joined-stated-gt50000000, then-is_ok-stated, else-is_ok-stated, then-stated-gt50000000, else-stated-gt50000000}
 
 pub head_refusal-refused-requires : goal.head_refusal-refused-requires
 head_refusal-refused-requires c = basis_age _ _ c.basis_of-basis.ensures
 
-pub loop-i-init : goal.loop-i-init
-loop-i-init c =
-    (zero-le, c.requires.0, zero-le, gone_none _ _ _ _ _ c.head_refusal-refused.ensures c.requires.2)
+pub loop-row-init : goal.loop-row-init
+loop-row-init c = record {
+  start = c.requires.start;
+  small = omega arith;
+  gone = gone_none _ _ _ _ c.args.rows.now c.head_refusal-refused.ensures;
+}
 
 pub pension_refusal-requires : goal.pension_refusal-requires
 pension_refusal-requires c = basis_age _ _ c.basis_of-basis.ensures
 
--- a place in the loop is one of the four
-place : (c : In-loop-i) → c.loop-i.i < 4
-place c = lt_of_lt_of_le c.loop-i-test.true c.requires.1
-
 -- the refusal so far is the lower of that of the pensions before and this one's
 judged : (c : After-lower_of-refused)
     → refusal_number c.lower_of-refused.result
-    ≡ lower (refusal_number c.loop-i.refused) (lowest 3 (pension_conditions c.args.head c.read_pension-read.result.value))
-judged c =
-    c.lower_of-refused.ensures
-    ∙ ap (λ (r : ℕ). lower (refusal_number c.loop-i.refused) r) c.pension_refusal.ensures
+    ≡ lower (refusal_number c.loop-row.refused) (lowest 3 (pension_conditions c.args.head c.read_pension-read.result.value))
+judged c = c.lower_of-refused.ensures ∙ ap (lower (refusal_number c.loop-row.refused)) c.pension_refusal.ensures
 
 -- none is refused so far where its number is 0
 told : (c : After-is_ok) → c.is_ok.result ≡ nat_eq (refusal_number c.lower_of-refused.result) 0
 told c = c.is_ok.ensures.value ∙ given c.lower_of-refused.result
 
-pub store_figures-requires : goal.store_figures-requires
-store_figures-requires c = (
-  λ accepted.
-      none_refused _ _ _ (refusal_number c.loop-i.refused) _ c.loop-i.stated _ c.basis_of-basis.ensures
-      (judged ((goal.at.store_figures-requires c).After-lower_of-refused)) refl
-      (rw (← told ((goal.at.store_figures-requires c).After-is_ok)) accepted),
-  place ((goal.at.store_figures-requires c).In-loop-i),
-  c.loop-i.invariant.3.four,
-)
+pub row_of-requires : goal.row_of-requires
+row_of-requires c =
+    none_refused _ _ _ (refusal_number c.loop-row.refused) _ c.loop-row.stated _ c.basis_of-basis.ensures
+    (judged ((goal.at.row_of-requires c).After-lower_of-refused)) refl
+    (rw (← told ((goal.at.row_of-requires c).After-is_ok)) c.if-is_ok-stated.true)
 
--- the total is at most a full number for each pension
-grown : (c : After-is_ok) → let read = c in
-    let l = read.loop-i in
-    l.stated + read.read_pension-read.result.value.stated.0 ≤ (l.i + 1) * 4294967295
-grown c = omega arith
+pub loop-row-preserved : goal.loop-row-preserved
+loop-row-preserved c =
+    let l = c.loop-row in
+    let read = c.read_pension-read in
+    let judges = judged ((goal.at.loop-row-preserved c).After-lower_of-refused) in
+    record {
+      start = omega (arith, read.ensures.next, l.invariant.start);
+      small = omega (arith, l.invariant.small);
+      gone =
+          elim c.if-is_ok-stated.branch [
+            | then-is_ok-stated w ↦
+                rw w.rows-is
+                (one_stored l.invariant.gone read.result.value _ _ _ l.invariant.start read.ensures judges refl w.row_of.result
+                (omega (arith, l.auto.rows, c.loop-row-test.true)) (w.row_of.ensures _ c.basis_of-basis.ensures))
+            | else-is_ok-stated w ↦
+                rw w.rows-is
+                (one_passed l.invariant.gone read.result.value _ _ _ l.invariant.start read.ensures judges refl _
+                (rw (← told ((goal.at.loop-row-preserved c).After-is_ok)) w.if-is_ok-stated.false))
+          ];
+    }
 
-pub loop-i-preserved : goal.loop-i-preserved
-loop-i-preserved c =
-    let l = c.loop-i in (
-      add-one-le c.loop-i-test.true,
-      omega (arith, c.read_pension-read.ensures.next, l.invariant.1),
-      grown ((goal.at.loop-i-preserved c).After-is_ok),
-      one_worked l.invariant.3 c.read_pension-read.result.value _ _ _ l.invariant.1 c.read_pension-read.ensures (judged ((goal.at.loop-i-preserved c).After-lower_of-refused))
-          refl _ _ (ap (λ (x : Bool). x && leb (l.stated + c.read_pension-read.result.value.stated.0) 50000000) (told ((goal.at.loop-i-preserved c).After-is_ok))) (place ((goal.at.loop-i-preserved c).In-loop-i)) (c.store_figures.ensures _ c.basis_of-basis.ensures),
-    )
-
--- after the loop all n were gone through
-gone : (c : After-loop-i) → let l = c.loop-i in
-    Gone c.args.head c.args.bytes.now c.args.n (case_length c.args.n) (refusal_number l.refused) l.stated
-    (columns l.pensions l.tops l.bottoms l.caps l.prices l.increases)
-gone c =
-    let l = c.loop-i in
-    gone_all l.i _ _ _ _ (le_antisymm l.invariant.0 c.loop-i-test.false) l.invariant.1 l.invariant.3
-
--- and the cursor stands behind them
-behind : (c : After-loop-i) → c.loop-i.next.at ≡ case_length c.args.n
-behind c = let l = c.loop-i in omega (arith, l.invariant.0, c.loop-i-test.false, l.invariant.1)
+-- after the loop all were gone through
+all : (c : After-loop-row) → c.loop-row.row-index ≡ length c.args.rows.now
+all c = omega (arith, c.loop-row.auto.row-index-end, c.loop-row-test.false)
 
 -- and the total counts, whether or not it is above the limit
-ended : (c : Joined-stated-gt50000000) → let l = c.loop-i in
-    WorkedOut c.args.head c.args.bytes.now c.args.n (refusal_number c.if-stated-gt50000000.refused)
-    (columns l.pensions l.tops l.bottoms l.caps l.prices l.increases)
-ended c = elim c.if-stated-gt50000000.branch [
-  | then-stated-gt50000000 w ↦
-      rw w.refused-is
-      (gone_above (gone ((goal.at.Joined-stated-gt50000000 c).After-loop-i)) _ (omega arith) w.lower_of-refused-then-stated-gt50000000.ensures)
-  | else-stated-gt50000000 w ↦
-      rw w.refused-is (gone_within (gone ((goal.at.Joined-stated-gt50000000 c).After-loop-i)) (omega arith))
-]
+ended : (c : Joined-stated-gt50000000)
+    → WorkedOut c.args.head c.args.bytes.now (length c.args.rows.now) (refusal_number c.if-stated-gt50000000.refused) c.loop-row.rows
+ended c =
+    let l = c.loop-row in
+    let whole = all ((goal.at.Joined-stated-gt50000000 c).After-loop-row) in
+    elim c.if-stated-gt50000000.branch [
+      | then-stated-gt50000000 w ↦
+          rw w.refused-is
+          (gone_above l.invariant.gone l.invariant.start whole l.auto.rows _ (omega arith)
+          w.lower_of-refused-then-stated-gt50000000.ensures)
+      | else-stated-gt50000000 w ↦
+          rw w.refused-is (gone_within l.invariant.gone l.invariant.start whole l.auto.rows (omega arith))
+    ]
 
-pub returns-in_err-refused : goal.returns-in_err-refused
-returns-in_err-refused c =
+pub returns-in_err-refused-clause-worked : goal.returns-in_err-refused-clause-worked
+returns-in_err-refused-clause-worked c =
     let p = err_from_is_err_and c.from_residual.result c.from_residual.ensures.1 in
-    rw (p.1, p.2) (rw c.in_err-refused.was at (ended ((goal.at.returns-in_err-refused c).Joined-stated-gt50000000)), tt)
+    rw (p.1, p.2) (rw c.in_err-refused.was at (ended ((goal.at.returns-in_err-refused-clause-worked c).Joined-stated-gt50000000)))
 
-pub returns : goal.returns
-returns c =
-    (rw c.in_ok-refused.was at (ended ((goal.at.returns c).Joined-stated-gt50000000)), behind ((goal.at.returns c).After-loop-i))
-
-pub overflow_add-i : goal.overflow_add-i
-overflow_add-i c = Fits-below tt (add-one-le (place ((goal.at.overflow_add-i c).In-loop-i)))
-
-pub loop-i-smaller : goal.loop-i-smaller
-loop-i-smaller c = fewer _ _ c.loop-i-test.true
+pub returns-clause-worked : goal.returns-clause-worked
+returns-clause-worked c = rw c.in_ok-refused.was at (ended ((goal.at.returns-clause-worked c).Joined-stated-gt50000000))

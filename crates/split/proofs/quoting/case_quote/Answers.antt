@@ -1,21 +1,20 @@
 -- `case_quote` is the definition `case_quote` of the pensions that were worked out and the amount that was read behind them: what
 -- each callee asks holds of an accepted case, and their promises compose.
-use Prim.Native.Nat.{ℕ}
-use mathlib.Core.Path.{◌≡◌, refl, sym, ◌∙◌, ap}
-use native.Mathlib.Omega.{arith}
-use lib.ListN.{take}
+use Rattle.std.proofs.Common.{ℕ, ◌≡◌, ◌≤◌, ◌<◌, length, take, map, refl, sym, ◌∙◌, ap, subst, arith}
+use Rattle.std.proofs.lemmas.List.{length-take-le}
 use Rattle.std.proofs.lemmas.Result.{err_from_is_err_and}
+use Rattle.refusals.specs.Numbers.{number}
 use Rattle.refusals.proofs.NumbersLaws.{number_some}
 use Rattle.split.specs.declared.allowance.Allowance.{Allowance}
 use Rattle.split.specs.Benefits.{benefits_of}
 use Rattle.split.specs.Bytes.{FieldOf}
 use Rattle.split.specs.Case.{allowance_used_at, case_length}
 use Rattle.split.specs.Allowance.{allowance_of}
-use Rattle.split.specs.Grant.{grant}
+use Rattle.split.specs.Grant.{lumps_of, grant}
+use Rattle.split.specs.Working.{WorkedOut, row_of, row_in}
 use Rattle.split.proofs.Accepted.{Accepted, case_accepted}
 use Rattle.split.proofs.ReadingLaws.{RightLength, length_listed}
-use Rattle.split.proofs.RangesLaws.{lumps_small, shares_range}
-use Rattle.split.proofs.Granted.{pensions_small, price_positive, grant_worked, quote_made, case_refused, case_granted}
+use Rattle.split.proofs.Granted.{pensions_small, price_positive, rows_kept, grant_worked, lumps_granted_small, rows_range, quote_made, case_refused, case_granted}
 use Rattle.split.proofs.quoting.case_quote.Goals as goal
 use Rattle.split.proofs.quoting.case_quote.Goals.{After-grant_of, After-read_allowance_used-used, In_ok-next, Start}
 
@@ -23,77 +22,87 @@ use Rattle.split.proofs.quoting.case_quote.Goals.{After-grant_of, After-read_all
 listed : (c : Start) → RightLength c.args.characters c.args.n
 listed c = length_listed _ _ c.requires.1
 
-pub work_out-requires : goal.work_out-requires
-work_out-requires c = (
-  c.requires.0,
-  (listed ((goal.at.work_out-requires c).Start)).counted.1,
-  record { pensions = refl; tops = refl; bottoms = refl; caps = refl; prices = refl; increases = refl },
-)
+pub slice_bounds-places-end : goal.slice_bounds-places-end
+slice_bounds-places-end c = (listed ((goal.at.slice_bounds-places-end c).Start)).counted.1
+
+pub slice_bounds-rows-end : goal.slice_bounds-rows-end
+slice_bounds-rows-end c = sym (length-take-le c.args.n _ (listed ((goal.at.slice_bounds-rows-end c).Start)).counted.1)
 
 pub returns-in_err-next : goal.returns-in_err-next
 returns-in_err-next c =
     let p = err_from_is_err_and c.from_residual.result c.from_residual.ensures.1 in
-    rw (p.1, p.2)
-    (case_refused c.in_err-next.ensures.0 _ (listed ((goal.at.returns-in_err-next c).Start)).long _ (number_some c.in_err-next.field-0.0) refl)
+    let w = subst (λ (m : ℕ). WorkedOut c.args.head c.args.bytes.now m (number c.in_err-next.field-0.0) c.work_out.new.rows)
+    (length-take-le c.args.n _ (listed ((goal.at.returns-in_err-next c).Start)).counted.1) c.in_err-next.ensures.worked in
+    rw (p.1, p.2) (case_refused w _ (listed ((goal.at.returns-in_err-next c).Start)).long _ (number_some c.in_err-next.field-0.0) refl)
 
--- past the `?` the case is accepted
-accepted : (c : In_ok-next) → let worked = c in
-    Accepted worked.args.head worked.in_ok-next.ensures.0.pensions
-accepted c = case_accepted _ _ (sym c.in_ok-next.ensures.0.judged)
+-- past the `?` n pensions were worked out
+worked : (c : In_ok-next) → WorkedOut c.args.head c.args.bytes.now c.args.n 0 c.work_out.new.rows
+worked c =
+    subst (λ (m : ℕ). WorkedOut c.args.head c.args.bytes.now m 0 c.work_out.new.rows)
+    (length-take-le c.args.n _ (listed ((goal.at.In_ok-next c).Start)).counted.1) c.in_ok-next.ensures.worked
+
+-- and the cursor stands behind them
+behind : (c : In_ok-next) → c.in_ok-next.next.at ≡ case_length c.args.n
+behind c =
+    c.in_ok-next.ensures.behind
+    ∙ ap case_length (length-take-le c.args.n _ (listed ((goal.at.In_ok-next c).Start)).counted.1)
+
+-- the case is accepted, and its pensions have their rows
+accepted : (c : In_ok-next) → Accepted c.args.head (worked c).pensions
+accepted c = case_accepted _ _ (sym (worked c).judged)
+
+made : (c : In_ok-next) → c.work_out.new.rows ≡ map (row_of c.args.head) (worked c).pensions
+made c = (worked c).made refl
 
 pub read_allowance_used-used-requires : goal.read_allowance_used-used-requires
 read_allowance_used-used-requires c =
     let l = listed ((goal.at.read_allowance_used-used-requires c).Start) in
-    (λ more. omega (arith, c.in_ok-next.ensures.1, l.field (omega (arith, c.in_ok-next.ensures.1))), omega (arith, l.short, l.counted))
+    let b = behind ((goal.at.read_allowance_used-used-requires c).In_ok-next) in
+    (λ more. omega (arith, b, l.field (omega (arith, b))), omega (arith, l.short, l.counted))
 
 -- what was read behind the pensions
-used : (c : After-read_allowance_used-used) → let start = c in
-    FieldOf start.args.bytes.now start.args.characters c.read_allowance_used-used.result.0
-    (λ s. allowance_used_at s (case_length start.args.n) start.args.characters)
+used : (c : After-read_allowance_used-used)
+    → FieldOf c.args.bytes.now c.args.characters c.read_allowance_used-used.result.0
+    (λ s. allowance_used_at s (case_length c.args.n) c.args.characters)
 used c s bytes within =
     c.read_allowance_used-used.ensures s bytes within
-    ∙ ap (λ (at : ℕ). allowance_used_at s at c.args.characters)
-    c.in_ok-next.ensures.1
+    ∙ ap (λ (at : ℕ). allowance_used_at s at c.args.characters) (behind ((goal.at.After-read_allowance_used-used c).In_ok-next))
 
-pub grant_of-requires : goal.grant_of-requires
-grant_of-requires c =
-    let few = (listed ((goal.at.grant_of-requires c).Start)).counted.1 in
-    let w = c.in_ok-next.ensures.0 in
-    let held = w.figures refl in (
-      few,
-      w.four.pensions,
-      pensions_small _ w.pensions _ _ held w.four w.counted few (accepted ((goal.at.grant_of-requires c).In_ok-next)),
-      w.four.prices,
-      w.four.caps,
-      price_positive _ w.pensions _ _ held w.four w.counted few,
-      refl,
-    )
+pub grant_of-requires-clause-small : goal.grant_of-requires-clause-small
+grant_of-requires-clause-small c =
+    let e = (goal.at.grant_of-requires-clause-small c).In_ok-next in
+    pensions_small _ _ _ (made e) (accepted e)
 
--- the lumps are those of the grant
-granted : (c : After-grant_of) → let read = c in
-    let worked = read in
-    let start = worked in
-    take start.args.n c.grant_of.new.lumps
-    ≡ grant (allowance_of start.args.head.commencement read.read_allowance_used-used.result.0)
-    (benefits_of start.args.head worked.in_ok-next.ensures.0.pensions)
-granted c =
-    let w = c.in_ok-next.ensures.0 in
-    grant_worked _ w.pensions _ _ (w.figures refl) w.four w.counted (listed ((goal.at.After-grant_of c).Start)).counted.1 _ _ c.grant_of.ensures.0
-    ∙ ap (λ (a : Allowance). grant a (benefits_of c.args.head w.pensions)) c.allowance_of-allowance.ensures
+pub grant_of-requires-clause-priced : goal.grant_of-requires-clause-priced
+grant_of-requires-clause-priced c =
+    let e = (goal.at.grant_of-requires-clause-priced c).In_ok-next in
+    price_positive _ _ _ (made e)
 
 pub total_of-total-requires : goal.total_of-total-requires
 total_of-total-requires c =
-    ((listed ((goal.at.total_of-total-requires c).Start)).counted.1, c.grant_of.ensures.1, lumps_small _ _ _ (accepted ((goal.at.total_of-total-requires c).In_ok-next)) _ (granted ((goal.at.total_of-total-requires c).After-grant_of)))
+    let e = (goal.at.total_of-total-requires c).In_ok-next in
+    lumps_granted_small _ _ _ (made e) _ _ c.grant_of.ensures.taken c.grant_of.ensures.kept (accepted e)
 
-pub shares_of-shares-requires : goal.shares_of-shares-requires
-shares_of-shares-requires c =
-    let w = c.in_ok-next.ensures.0 in
-    shares_range _ _ w.pensions _ _ _ (accepted ((goal.at.shares_of-shares-requires c).In_ok-next)) (w.figures refl) w.four w.counted (listed ((goal.at.shares_of-shares-requires c).Start)).counted.1
-    c.grant_of.ensures.1 (granted ((goal.at.shares_of-shares-requires c).After-grant_of)) c.grant_of.ensures.2
+pub shares_of-shares-requires-clause-ranges : goal.shares_of-shares-requires-clause-ranges
+shares_of-shares-requires-clause-ranges c =
+    let e = (goal.at.shares_of-shares-requires-clause-ranges c).In_ok-next in
+    rows_range _ _ _ (made e) _ _ c.grant_of.ensures.taken c.grant_of.ensures.kept (accepted e)
+
+-- the lumps are those of the grant
+granted : (c : After-grant_of)
+    → lumps_of (map row_in c.grant_of.new.rows)
+    ≡ grant (allowance_of c.args.head.commencement c.read_allowance_used-used.result.0)
+    (benefits_of c.args.head (worked ((goal.at.After-grant_of c).In_ok-next)).pensions)
+granted c =
+    let ps = (worked ((goal.at.After-grant_of c).In_ok-next)).pensions in
+    grant_worked _ _ _ (made ((goal.at.After-grant_of c).In_ok-next)) _ _ c.grant_of.ensures.taken c.grant_of.ensures.kept
+    ∙ ap (λ (a : Allowance). grant a (benefits_of c.args.head ps)) c.allowance_of-allowance.ensures
 
 pub returns : goal.returns
 returns c =
-    let w = c.in_ok-next.ensures.0 in
-    case_granted w _ (listed ((goal.at.returns c).Start)).long _ _ refl (used ((goal.at.returns c).After-read_allowance_used-used))
-    (quote_made _ w.pensions _ _ (w.figures refl) w.four w.counted (listed ((goal.at.returns c).Start)).counted.1 _ _ _ _
-    c.grant_of.ensures.1 (granted ((goal.at.returns c).After-grant_of)) c.total_of-total.ensures c.shares_of-shares.ensures)
+    let w = worked ((goal.at.returns c).In_ok-next) in
+    let kept = rows_kept _ _ _ (made ((goal.at.returns c).In_ok-next)) _ _ c.grant_of.ensures.taken c.grant_of.ensures.kept in
+    case_granted w _ (listed ((goal.at.returns c).Start)).long _ _ refl
+    (used ((goal.at.returns c).After-read_allowance_used-used))
+    (quote_made _ w.pensions _ _ _ _ kept (granted ((goal.at.returns c).After-grant_of)) c.total_of-total.ensures
+    c.shares_of-shares.ensures)

@@ -1,20 +1,18 @@
--- `shares_of` makes shares of the columns that were filled for the pensions.
-use mathlib.Core.Path.{refl, ◌∙◌}
-use Rattle.split.proofs.QuotingLoop.{shares_joined}
+-- `shares_of` stores the shares one by one: the first `i` are those of the first `i` rows.
+use Rattle.std.proofs.Common.{◌≡◌, ◌<◌, ◌≤◌, map, take, length, ◌∙◌, ap, set, arith}
+use Rattle.std.proofs.lemmas.List.{map_more, length-take-le}
+use Rattle.std.proofs.Math.ListN.{length-map}
+use Rattle.split.specs.Quote.{no_share}
+use Rattle.split.specs.Working.{no_row, share_in}
+use Rattle.split.proofs.ListLoop.{store_next}
 use Rattle.split.proofs.quoting.shares_of.Goals as goal
 
-pub shares_at-requires : goal.shares_at-requires
-shares_at-requires c =
-    let filled = c.take_off.ensures in
-    (c.requires.lumps, filled.0.size, filled.1.size)
-
-pub returns : goal.returns
-returns c =
-    let filled = c.take_off.ensures in
-    let a = c.args in
-    c.shares_at.ensures
-    ∙ shares_joined a.pensions.now a.tops.now a.bottoms.now a.increases.now a.lumps.now _ _ a.n c.requires.places
-    c.requires.rest filled.0 filled.1
-
-pub take_off-requires : goal.take_off-requires
-take_off-requires c = (c.requires, refl, refl)
+pub loop-i-preserved : goal.loop-i-preserved
+loop-i-preserved c =
+    let l = c.loop-i in
+    let rows = c.args.rows.now in
+    let counted : length (map share_in (take l.i rows)) ≡ l.i =
+    length-map (take l.i rows) share_in ∙ length-take-le l.i rows (omega (arith, c.loop-i-test.true))
+    in
+    rw (c.share_of.ensures, l.invariant, map_more share_in rows l.i no_row c.loop-i-test.true)
+    (store_next (map share_in (take l.i rows)) 4 l.i _ no_share counted (omega (arith, c.loop-i-test.true, c.requires.few)))

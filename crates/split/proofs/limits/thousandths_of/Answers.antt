@@ -1,9 +1,0 @@
--- `thousandths_of` chooses by the kind.
-use borrow.Author.Tests.{eq-eqb, ne_eqb}
-use Rattle.split.proofs.limits.thousandths_of.Goals as goal
-
-pub returns-then-kind-eq3 : goal.returns-then-kind-eq3
-returns-then-kind-eq3 c = simp (eq-eqb _ _ c.if-kind-eq3.true)
-
-pub returns-else-kind-eq3 : goal.returns-else-kind-eq3
-returns-else-kind-eq3 c = simp (ne_eqb _ _ c.if-kind-eq3.false)
