@@ -4,7 +4,7 @@
 -- the fault is 0 exactly in the calendar; months to the 60th birthday never pass a bound that the age gives, and it is not past
 -- while the age is below 720 months. Assumes nothing.
 use mathlib.Core.Path.{◌≡◌, refl, sym, ◌∙◌}
-use mathlib.Core.Bool.{Bool, true, false, cond, not, ◌&&◌, ◌||◌, or-true, and-false, true≢false, false≢true}
+use mathlib.Core.Bool.{Bool, true, false, cond, not, ◌&&◌, ◌||◌, not-not, or-true, and-false, true≢false, false≢true}
 use mathlib.Core.Logic.{◌⊎◌, inl, inr, ⊎_elim}
 use Prim.Native.Nat.{ℕ, ◌+◌, ◌-◌, ◌*◌, ◌≤◌, ◌<◌}
 use native.Mathlib.Nat.{sub-zero, le_of_lt, mul-le-mul_right}
@@ -12,10 +12,13 @@ use native.Mathlib.Decide.{dec_lt}
 use native.Mathlib.Omega.{arith}
 use lib.Dec.{leb, ltb, eqb}
 use borrow.Author.Tests.{ltb-true, eqb-true, leb-true, lt-ltb, le-ltb, le-leb, lt-leb, eq-eqb, ne_eqb}
+use Rattle.std.specs.Prelude.{Option, None, Some, is_some}
 use Rattle.calendar.specs.declared.Date.{Date}
+use Rattle.calendar.specs.declared.DateFault.{DateFault}
+use Rattle.calendar.specs.declared.DateFault.TheVariants.{Day, Month, Year, MonthLength}
 use Rattle.calendar.specs.Tests.{within}
 use Rattle.calendar.proofs.TestsLaws.{and_left, and_right, not_true_false, by_test, within_bounds, lowest-any}
-use Rattle.calendar.specs.Calendar.{date, leap, thirty, month_length, day_in, month_in, year_in, length_in, broken_tests, date_fault, in_calendar, Inside, Outside, OfCalendar, common_date, before_by, earlier, month_index, incomplete, months, sixtieth_birthday}
+use Rattle.calendar.specs.Calendar.{date, leap, thirty, month_length, day_in, month_in, year_in, length_in, broken_tests, date_fault, fault_number, in_calendar, Inside, Outside, OfCalendar, common_date, before_by, earlier, month_index, incomplete, months, sixtieth_birthday}
 
 -- what `before_by` says
 by_cases : (x y : ℕ) (s : Bool) → before_by x y s ≡ true → (x < y) ⊎ ((x ≡ y) × (s ≡ true))
@@ -257,6 +260,18 @@ fault_none y m d = go (day_in d) (month_in m) (year_in y) (length_in y m d) refl
     go true false c l p q r s = lowest-any 0 (broken_tests y m d) ∙ simp (q, or-true, and-false)
     go true true false l p q r s = lowest-any 0 (broken_tests y m d) ∙ simp (r, or-true, and-false)
     go true true true false p q r s = lowest-any 0 (broken_tests y m d) ∙ simp (s, or-true, and-false)
+
+-- and so the code's answer is None
+pub no_fault : (fault : Option DateFault) (none : Bool) (y m d : ℕ) → fault_number fault ≡ date_fault y m d
+    → is_some fault ≡ not none → none ≡ in_calendar (date y m d)
+no_fault fault none y m d number e = rw (e, not-not) at (by_number fault) ∙ rw number (fault_none y m d)
+  where
+    by_number : (f : Option DateFault) → not (is_some f) ≡ eqb (fault_number f) 0
+    by_number None = refl
+    by_number (Some Day) = refl
+    by_number (Some Month) = refl
+    by_number (Some Year) = refl
+    by_number (Some MonthLength) = refl
 
 -- where the age is 660 to 719 months, there are 0 to 60 months to the 60th birthday
 pub months_to_sixtieth : (birth at : Date) → 660 ≤ months birth at → months birth at < 720 → months at (sixtieth_birthday birth) ≤ 60

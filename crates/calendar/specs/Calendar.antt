@@ -2,8 +2,10 @@
 -- ("Months and factors", with the complete months of request [6] of document 02); and, by request [4], which test of the calendar a
 -- date breaks first. Every definition is total: it has a value at any triple of numbers, whether or not that is a date. Assumes
 -- nothing.
-use Rattle.std.specs.Prelude.{ℕ, ◌+◌, ◌-◌, ◌*◌, ◌%◌, ◌≤◌, ◌<◌, ◌≡◌, ◌↔◌, ◌⊎◌, Bool, cond, not, ◌&&◌, ◌||◌, List, [], ◌∷◌, leb, ltb, eqb}
+use Rattle.std.specs.Prelude.{ℕ, ◌+◌, ◌-◌, ◌*◌, ◌%◌, ◌≤◌, ◌<◌, ◌≡◌, ◌↔◌, ◌⊎◌, Bool, cond, not, ◌&&◌, ◌||◌, List, [], ◌∷◌, Option, None, Some, leb, ltb, eqb}
 use Rattle.calendar.specs.declared.Date.{Date}
+use Rattle.calendar.specs.declared.DateFault.{DateFault}
+use Rattle.calendar.specs.declared.DateFault.TheVariants.{Day, Month, Year, MonthLength}
 use Rattle.calendar.specs.Tests.{within, lowest}
 
 -- the date of these three numbers
@@ -43,6 +45,14 @@ broken_tests y m d = not (day_in d) ∷ not (month_in m) ∷ not (year_in y) ∷
 -- "by 1 to 4 which of these a date breaks first, or 0 for none", for any year, month and day
 unfoldable pub date_fault : ℕ → ℕ → ℕ → ℕ
 date_fault y m d = lowest 1 (broken_tests y m d)
+
+-- the number of a fault: 1 the day, 2 the month, 3 the year, 4 the month's own length, and 0 for none
+abbrev pub fault_number : Option DateFault → ℕ
+fault_number None = 0
+fault_number (Some Day) = 1
+fault_number (Some Month) = 2
+fault_number (Some Year) = 3
+fault_number (Some MonthLength) = 4
 
 -- "Gregorian, 1900 to 2199": no test is broken. That these are the dates whose fault is 0 is a law (`fault_none`).
 unfoldable pub in_calendar : Date → Bool

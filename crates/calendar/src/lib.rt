@@ -2,7 +2,7 @@
 #![tactic(auto)]
 
 ghost use Rattle.std.specs.Prelude.{◌≡◌, ◌+◌, ◌*◌, ◌≤◌};
-ghost use Rattle.calendar.specs.Calendar.{date, leap, month_length, length_in, date_fault, in_calendar, common_date, earlier, last_day, incomplete, months, sixtieth_birthday};
+ghost use Rattle.calendar.specs.Calendar.{date, leap, month_length, length_in, date_fault, fault_number, in_calendar, common_date, earlier, last_day, incomplete, months, sixtieth_birthday};
 
 // The years of the calendar.
 const FIRST_YEAR: u32 = 1900;
@@ -10,13 +10,23 @@ const FIRST_YEAR: u32 = 1900;
 const LAST_YEAR: u32 = 2199;
 
 // Any three numbers of these widths, as they stand in a case line; in_calendar tells which are dates.
-#[derive(Clone, Copy)]
+#[derive(Clone, Copy, Debug, PartialEq, Eq, PartialOrd, Ord)]
 pub struct Date {
     pub year: u16,
     pub month: u8,
     pub day: u8,
 }
 
+// The tests of the calendar, each by the number that tells it to a C program, which has 0 for a date that breaks none.
+#[derive(Clone, Copy, Debug, PartialEq, Eq)]
+pub enum DateFault {
+    Day = 1,
+    Month = 2,
+    Year = 3,
+    MonthLength = 4,
+}
+
+#[tactic(auto, unfolding(crate::specs::Calendar::leap))]
 fn leap_year(year: u32) -> bool
     ensures { result ≡ leap year }
 {
@@ -26,7 +36,9 @@ fn leap_year(year: u32) -> bool
     fourth & (!hundredth | four_hundredth)
 }
 
-// The days that a month has in every year, so without 29 February, as in 1901; 0 where there is no such month.
+// The days that a month has in every year, so without 29 February, as in 1901; 0 where there is no such month. An arm a month is a
+// table to the compiler. Months that share an arm, as `4 | 6 | 9 | 11`, are branches, by which in_calendar takes twice as long.
+#[tactic(auto, unfolding(crate::specs::Calendar::month_length, crate::specs::Calendar::month_in, crate::specs::Calendar::thirty, crate::specs::Calendar::leap))]
 fn days_of(month: u32) -> u32
     ensures { result ≡ month_length 1901 month }
 {
@@ -48,6 +60,7 @@ fn days_of(month: u32) -> u32
 }
 
 // Whether d is a date whose day its month has in every year: a date of the calendar, and any of them but a 29 February.
+#[tactic(auto, unfolding(crate::specs::Calendar::year_in, crate::specs::Calendar::common_date))]
 pub fn is_common_date(d: Date) -> bool
     ensures { result ≡ common_date d }
 {
@@ -58,6 +71,7 @@ pub fn is_common_date(d: Date) -> bool
 }
 
 // Whether the month of a year has the day. Whether a year is a leap year takes divisions: only 29 February asks.
+#[tactic(auto, using(crate::proofs::CalendarLaws::usual_day, crate::proofs::CalendarLaws::leap_day, crate::proofs::CalendarLaws::no_day))]
 fn has_day(year: u32, month: u32, day: u32) -> bool
     ensures { result ≡ length_in year month day }
 {
@@ -70,24 +84,24 @@ fn has_day(year: u32, month: u32, day: u32) -> bool
     false
 }
 
-// Which test of the calendar the date of these numbers, all 32 bits of them, breaks first: 1 the day, 2 the month, 3 the year, 4 the
-// month's own length; 0 for none.
-pub fn date_fault(year: u32, month: u32, day: u32) -> u32
-    ensures { result ≡ date_fault year month day }
+// Which test of the calendar the date of these numbers, all 32 bits of them, breaks first; None where it breaks none.
+#[tactic(auto, unfolding(crate::specs::Calendar::date_fault, crate::specs::Calendar::broken_tests, crate::specs::Calendar::day_in, crate::specs::Calendar::month_in, crate::specs::Calendar::year_in))]
+pub fn date_fault(year: u32, month: u32, day: u32) -> Option<DateFault>
+    ensures { fault_number result ≡ date_fault year month day }
 {
     if !((1 <= day) & (day <= 31)) {
-        return 1;
+        return Some(DateFault::Day);
     }
     if !((1 <= month) & (month <= 12)) {
-        return 2;
+        return Some(DateFault::Month);
     }
     if !((FIRST_YEAR <= year) & (year <= LAST_YEAR)) {
-        return 3;
+        return Some(DateFault::Year);
     }
     if !has_day(year, month, day) {
-        return 4;
+        return Some(DateFault::MonthLength);
     }
-    0
+    None
 }
 
 // Whether d is a date of the calendar: one without a fault. Most are dates of every year, which are let in at once: of the tests in
@@ -98,10 +112,11 @@ pub fn in_calendar(d: Date) -> bool
     if is_common_date(d) {
         return true;
     }
-    date_fault(d.year as u32, d.month as u32, d.day as u32) == 0
+    date_fault(d.year as u32, d.month as u32, d.day as u32).is_none()
 }
 
-// A date as one number, in the order of dates.
+// A date as one number, in the order of dates. The derived order branches, and dates come in any order: a comparison by it takes twice
+// as long or more.
 fn order(d: Date) -> u32
     ensures { result ≡ d.year * 65536 + (d.month * 256 + d.day) }
 {
@@ -109,6 +124,7 @@ fn order(d: Date) -> u32
 }
 
 // Whether a is strictly before b.
+#[tactic(auto, using(crate::proofs::CalendarLaws::earlier_numbers))]
 pub fn is_earlier(a: Date, b: Date) -> bool
     ensures { result ≡ earlier a b }
 {
@@ -124,6 +140,7 @@ fn month_index(year: u32, month: u8) -> u32
 }
 
 // Whether the date of these numbers is the last day of its month, or past it: the month has no day after it.
+#[tactic(auto, using(crate::proofs::CalendarLaws::day_after), unfolding(crate::specs::Calendar::last_day))]
 fn is_last_day(year: u32, month: u8, day: u8) -> bool
     ensures { result ≡ last_day (date year month day) }
 {
@@ -132,6 +149,7 @@ fn is_last_day(year: u32, month: u8, day: u8) -> bool
 
 // Whether the last month from a to a later date is not complete. The later date comes as plain numbers, since the year of
 // a 60th birthday may pass those of a Date.
+#[tactic(auto, unfolding(crate::specs::Calendar::incomplete))]
 fn is_incomplete(a: Date, year: u32, month: u8, day: u8) -> bool
     ensures { result ≡ incomplete a (date year month day) }
 {
@@ -140,6 +158,7 @@ fn is_incomplete(a: Date, year: u32, month: u8, day: u8) -> bool
 }
 
 // Whole months from a to the date of these numbers, of which the year is at most 60 past the years of a Date.
+#[tactic(auto, unfolding(crate::specs::Calendar::months, crate::specs::Calendar::month_index))]
 fn months_to(a: Date, year: u32, month: u8, day: u8) -> u32
     requires { year ≤ 65595 }
     ensures { result ≡ months a (date year month day) }
@@ -147,13 +166,8 @@ fn months_to(a: Date, year: u32, month: u8, day: u8) -> u32
     let from = month_index(a.year as u32, a.month);
     let to = month_index(year, month);
     // A number and not a branch of its own: days come in any order, so that a branch on them is mispredicted half of the time.
-    let short = if is_incomplete(a, year, month, day) {
-        1
-    } else {
-        0
-    };
-    let whole = from + short;
-    if to <= whole { 0 } else { to - whole }
+    let short = u32::from(is_incomplete(a, year, month, day));
+    to.saturating_sub(from + short)
 }
 
 // Whole months from a to b; 0 where b is before a.
@@ -164,6 +178,7 @@ pub fn months_between(a: Date, b: Date) -> u32
 }
 
 // Whole months from a date to the 60th birthday of one born at birth; 0 where that is past.
+#[tactic(auto, unfolding(crate::specs::Calendar::sixtieth_birthday))]
 pub fn months_to_sixtieth_birthday(birth: Date, from: Date) -> u32
     ensures { result ≡ months from (sixtieth_birthday birth) }
 {

@@ -3,5 +3,4 @@ pub mod CommutationLaws
 pub mod EarlyPaymentLaws
 pub mod EffectiveLaws
 pub mod Figures
-pub mod Product
 pub mod Table

@@ -22,15 +22,12 @@ const TABLE_1: [u16; 240] = [
 ];
 
 // The factor at an age in months; 0 outside 636 to 875.
+#[tactic(auto, unfolding(crate::specs::Commutation::table1))]
 pub fn table_factor(age: u32) -> u16
     ensures { result ≡ table1 age }
 {
-    if age < 636 {
-        return 0;
+    match age {
+        636..=875 => TABLE_1[(age - 636) as usize],
+        _ => 0,
     }
-    if 875 < age {
-        return 0;
-    }
-    let at = (age - 636) as usize;
-    TABLE_1[at]
 }

@@ -13,17 +13,15 @@ const TABLE_A: [u16; 61] = [
 ];
 
 // The factor at a number of months to the 60th birthday; 0 above 60.
+#[tactic(auto, unfolding(crate::specs::EarlyPayment::early_payment_factor, crate::specs::EarlyPayment::table_a))]
 pub fn early_payment_factor(months: u32) -> u16
     ensures { result ≡ early_payment_factor months }
 {
-    if 60 < months {
-        return 0;
-    }
-    let at = months as usize;
-    TABLE_A[at]
+    TABLE_A.get(months as usize).copied().unwrap_or(0)
 }
 
 // A stated 2015 pension as it is paid this many months early, down to the penny.
+#[tactic(auto, using(crate::proofs::EarlyPaymentLaws::reduced_at_most), unfolding(crate::specs::EarlyPayment::reduced_pension))]
 pub fn reduced_pension(stated: YearlyPence, months: u32) -> YearlyPence
     ensures { result.0 ≡ reduced_pension stated.0 months }
 {

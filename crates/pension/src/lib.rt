@@ -239,5 +239,8 @@ pub extern "C" fn pension_trivial_commutation(
 pub extern "C" fn pension_date_fault(year: u32, month: u32, day: u32) -> u32
     ensures { result ≡ date_fault year month day }
 {
-    calendar::date_fault(year, month, day)
+    match calendar::date_fault(year, month, day) {
+        None => 0,
+        Some(fault) => fault as u32,
+    }
 }

@@ -9,9 +9,16 @@ use lib.Dec.{eqb}
 use lib.ListN.{length, get_or, get_or-map}
 use borrow.Author.Tests.{eqb-true, eqb-false}
 use Rattle.calendar.proofs.TestsLaws.{and_left, and_right, by_test}
+use Rattle.std.specs.Prelude.{Some}
 use Rattle.trivial_commutation.specs.declared.tables.Factors.{Factors}
-use Rattle.trivial_commutation.specs.Tables.{Row, small_pension_1987, small_pension_2006_and_2015}
+use Rattle.trivial_commutation.specs.declared.tables.Table.{Table}
+use Rattle.trivial_commutation.specs.declared.tables.Table.TheVariants.{First, Second}
+use Rattle.trivial_commutation.specs.Tables.{Row, small_pension_1987, small_pension_2006_and_2015, rows_of}
 use Rattle.trivial_commutation.specs.TrivialCommutation.{uses_table_1, uses_table_2, table_of, no_row, row_of, OwnRow}
+
+-- the factors of a row
+abbrev pub factors : Row → Factors
+factors r = r.factors
 
 -- each row has the age after that of the row before
 abbrev pub consecutive : ℕ → List Row → Bool
@@ -49,25 +56,11 @@ no_row_at (r ∷ rs) age none =
     (λ t. absurd (none 0 (omega arith) (omega (arith, eqb-true r.age _ t))))
     (λ f. no_row_at rs age (λ k h. none (suc k) (omega arith)))
 
--- the factors at a place of the two columns of a table
-abbrev pub columns : List Row → ℕ → Factors
-columns table k = record {
-  member = get_or (map (λ r. r.factors.member) table) k 0;
-  survivor = get_or (map (λ r. r.factors.survivor) table) k 0;
-}
-
-columns_at : (table : List Row) (k : ℕ) → columns table k ≡ (get_or table k no_row).factors
-columns_at table k =
-    λ i. record {
-      member = get_or-map (λ (r : Row). r.factors.member) table k no_row i;
-      survivor = get_or-map (λ (r : Row). r.factors.survivor) table k no_row i;
-    }
-
--- What a table of the ages from a first to a last gives: an age's row is its own; its factors stand in the columns as many
--- places from the start as the age is from the first; and other ages have no row.
+-- What a table of the ages from a first to a last gives: an age's row is its own; its factors stand as many places
+-- from the start as the age is from the first; and other ages have no row.
 pub record Ages (first last : ℕ) (table : List Row) : Type 0 where
   pub own : (age : ℕ) → first ≤ age → age ≤ last → OwnRow table age (row_of table age)
-  pub placed : (age : ℕ) → first ≤ age → age ≤ last → columns table (age - first) ≡ (row_of table age).factors
+  pub placed : (age : ℕ) → first ≤ age → age ≤ last → get_or (map factors table) (age - first) no_row.factors ≡ (row_of table age).factors
   pub none : (age : ℕ) → (first ≤ age → age ≤ last → ⊥) → row_of table age ≡ no_row
 
 -- the argument, for any table
@@ -80,7 +73,7 @@ own_rows first last table t = record {
     aged = ap (λ (r : Row). r.age) (found age low high) ∙ omega (arith, ages (age - first) (omega (arith, size)));
     only = λ k h e. omega (arith, ages k h);
   };
-  placed = λ age low high. columns_at table (age - first) ∙ ap (λ (r : Row). r.factors) (sym (found age low high));
+  placed = λ age low high. get_or-map factors table (age - first) no_row ∙ ap (λ (r : Row). r.factors) (sym (found age low high));
   none = λ age out. no_row_at table age (λ k h e. out (omega (arith, ages k h)) (omega (arith, size, ages k h)));
 }
   where
@@ -122,3 +115,9 @@ pub no_age : (scheme age : ℕ) → (60 ≤ age → age ≤ 99 → ⊥) → row_
 no_age scheme age out =
     by_table (λ (table : List Row). row_of table age ≡ no_row) scheme (λ e. ages_1987.none age out)
     (λ e. ages_2006_2015.none age out) (λ e. refl)
+
+-- so the code's rows are the scheme's: of a table that it uses
+pub placed : (scheme age : ℕ) (table : Table) → rows_of (Some table) ≡ table_of scheme → 60 ≤ age → age ≤ 99
+    → get_or (map factors (rows_of (Some table))) (age - 60) no_row.factors ≡ (row_of (table_of scheme) age).factors
+placed scheme age First e low high = rw (← e) (ages_1987.placed age low high)
+placed scheme age Second e low high = rw (← e) (ages_2006_2015.placed age low high)

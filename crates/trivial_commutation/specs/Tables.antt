@@ -1,7 +1,9 @@
 -- Tables 1 and 2 of document 004, "Factors for commutation of small pension", as printed: a row an age with its two factors, in
 -- tenths. Eight rows stand in a line. Assumes nothing.
-use Rattle.std.specs.Prelude.{ℕ, List, [], ◌∷◌}
+use Rattle.std.specs.Prelude.{ℕ, List, [], ◌∷◌, Option, None, Some}
 use Rattle.trivial_commutation.specs.declared.tables.Factors.{Factors}
+use Rattle.trivial_commutation.specs.declared.tables.Table.{Table}
+use Rattle.trivial_commutation.specs.declared.tables.Table.TheVariants.{First, Second}
 
 -- a row of a table: an age and its two factors
 pub record Row : Type 0 where
@@ -29,3 +31,9 @@ small_pension_2006_and_2015 =
     row 76 103 24 ∷ row 77 97 24 ∷ row 78 92 23 ∷ row 79 86 21 ∷ row 80 81 19 ∷ row 81 76 19 ∷ row 82 70 18 ∷ row 83 65 18 ∷
     row 84 61 15 ∷ row 85 56 13 ∷ row 86 52 12 ∷ row 87 48 12 ∷ row 88 44 11 ∷ row 89 40 9 ∷ row 90 37 7 ∷ row 91 34 6 ∷
     row 92 31 6 ∷ row 93 28 6 ∷ row 94 26 5 ∷ row 95 24 5 ∷ row 96 22 4 ∷ row 97 21 4 ∷ row 98 19 4 ∷ row 99 18 3 ∷ []
+
+-- the rows of a table that was chosen; no table has none
+abbrev pub rows_of : Option Table → List Row
+rows_of None = []
+rows_of (Some First) = small_pension_1987
+rows_of (Some Second) = small_pension_2006_and_2015

@@ -11,22 +11,23 @@ use factors::money::{LumpPence, YearlyPence};
 use tables::Factors;
 
 // Yearly money as the caller gives it, in pence and of any size, so that an amount that is too large is refused and never cut.
-#[derive(Clone, Copy)]
+#[derive(Clone, Copy, Debug, PartialEq, Eq)]
 pub struct YearlyAmount(pub u64);
 
 // Refusal 0 and the lump sum, or refusal 15 and none.
-#[derive(Clone, Copy)]
+#[derive(Clone, Copy, Debug, PartialEq, Eq)]
 pub struct Commuted {
     pub refusal: u8,
     pub lump: LumpPence,
 }
 
 // Whether an age, a scheme or a pension is outside its bounds or its list.
+#[tactic(auto, unfolding(crate::specs::TrivialCommutation::refused, crate::specs::TrivialCommutation::bad_age, crate::specs::TrivialCommutation::bad_scheme, crate::specs::TrivialCommutation::bad_pension))]
 fn is_refused(scheme: u32, age: u32, member: YearlyAmount, survivor: YearlyAmount) -> bool
     ensures { result ≡ refused scheme age member.0 survivor.0 }
 {
     let age_listed = (60 <= age) & (age <= 99);
-    let scheme_listed = tables::uses_table_1(scheme) | tables::uses_table_2(scheme);
+    let scheme_listed = tables::table_of(scheme).is_some();
     let pensions_listed = ((1 <= member.0) & (member.0 <= 50000000)) & (survivor.0 <= 50000000);
     !age_listed | (!scheme_listed | !pensions_listed)
 }
@@ -40,6 +41,7 @@ fn lump_tenths(pension: YearlyPence, factor: u8) -> u64
 }
 
 // The lump sum for both pensions: their sum is taken down to the penny, not each of them.
+#[tactic(auto, unfolding(crate::specs::TrivialCommutation::lump_sum))]
 fn lump_sum(factors: Factors, member: YearlyPence, survivor: YearlyPence) -> LumpPence
     requires { (member.0 ≤ 50000000) × (survivor.0 ≤ 50000000) }
     ensures { result.0 ≡ lump_sum factors member.0 survivor.0 }
