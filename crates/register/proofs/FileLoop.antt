@@ -1,7 +1,7 @@
 -- Filing by code: a filing's answer and bytes by its refusals, and the lines of a text filed one after the other: what the lines
 -- passed have left is the register that the fold leaves, and what is known of it stays known. Assumes nothing.
 use Prim.Native.Nat.{ℕ, suc, ◌+◌, ◌-◌, ◌≤◌, ◌<◌}
-use mathlib.Core.Bool.{false, cond}
+use mathlib.Core.Bool.{Bool, true, false, cond}
 use mathlib.Core.List.{List, [], ◌∷◌, ◌++◌, map, map-append, append-nil, append_assoc}
 use mathlib.Core.Path.{◌≡◌, refl, sym, ◌∙◌, ap}
 use native.Mathlib.Omega.{arith}
@@ -10,22 +10,29 @@ use lib.ListN.{length, take, drop, length-append}
 use lib.Seq.{drop-drop}
 use borrow.Author.Tests.{ne_eqb, lt-ltb, le-ltb, le-leb, lt-leb}
 use Rattle.split.specs.declared.answers.Quote.{Quote}
-use Rattle.split.specs.Refusal.{refusal_of}
+use Rattle.calendar.specs.Tests.{lowest}
+use Rattle.split.specs.Refusal.{refusal_of, line_conditions, conditions_with, conditions}
+use Rattle.split.specs.Case.{head_of, pensions_of}
 use Rattle.split.specs.Quote.{quote_of}
 use Rattle.split.proofs.QuoteLaws.{quote_fits, quote_refusal}
-use Rattle.register.specs.declared.answers.Filed.{Filed}
+use Rattle.register.specs.Answers.{Filed}
 use Rattle.register.specs.declared.answers.FiledLines.{FiledLines}
-use Rattle.register.specs.declared.checking.Scanned.{Scanned}
+use Rattle.std.specs.Prelude.{Result, Ok, Err}
+use Rattle.refusals.specs.declared.Refusal.{Refusal}
+use Rattle.refusals.specs.Numbers.{number, refusal_number}
+use Rattle.refusals.proofs.NumbersLaws.{number_positive}
+use Rattle.register.specs.declared.answers.Fault.{Fault}
+use Rattle.register.specs.declared.filing.Entered.{Entered}
 use Rattle.register.specs.Line.{share_count, figures_of, figures_for, line_text, line_for}
 use Rattle.register.specs.Layout.{Register, lent, line_length, used_lines}
 use Rattle.register.specs.Check.{following, check_of}
 use Rattle.register.specs.Steps.{runs}
 use Rattle.register.specs.File.{Filing, filing, number_from, number_given, refusal_given, file_refusal, filed_answer, text_filed, over, grown, file_step, file_run}
 use Rattle.register.specs.Text.{text_lines, text_filings, refusal_bytes, FiledText, FiledAll}
-use Rattle.register.specs.Scan.{ScannedAs, Known, LineEnd}
+use Rattle.register.specs.Scan.{Scanned, scanned_as, ScannedAs, Known, entered_as, LineEnd}
 use Rattle.register.proofs.LineLaws.{line_for-length}
 use Rattle.register.proofs.StepsLaws.{runs_answer, runs_state, runs_count}
-use Rattle.register.proofs.FileLaws.{refusal_none, answer_granted, answer_refused, answer_refusal, text_granted, text_refused, grown_none}
+use Rattle.register.proofs.FileLaws.{answer_granted, answer_refused, answer_refusal, text_granted, text_refused, grown_none}
 use Rattle.register.proofs.TextLaws.{line_cut, lines_none, refusals_size}
 use Rattle.register.proofs.Shown.{file_sound, step_sound}
 use Rattle.register.proofs.Demands.{list_claim}
@@ -33,6 +40,16 @@ use Rattle.register.proofs.Demands.{list_claim}
 -- a quote's refusal is its line's, and it has four shares
 pub quote_says : (q : Quote) (c : List ℕ) → q ≡ quote_of c → q.refusal ≡ refusal_of c
 quote_says q c e = ap (λ (p : Quote). p.refusal) e ∙ quote_refusal c
+
+-- and at most ten, as there are that many conditions of a case
+lowest_low : (k : ℕ) (bs : List Bool) → lowest (suc k) bs ≤ k + length bs
+lowest_low k [] = omega arith
+lowest_low k (true ∷ bs) = omega arith
+lowest_low k (false ∷ bs) = omega (arith, lowest_low (suc k) bs)
+
+pub case_low : (c : List ℕ) → refusal_of c ≤ 10
+unfolding refusal_of conditions_with
+case_low c = lowest_low 0 (line_conditions c ++ conditions (head_of c) (pensions_of c))
 
 pub quote_whole : (q : Quote) (c : List ℕ) → q ≡ quote_of c → length q.shares ≡ share_count
 quote_whole q c e = ap (λ (p : Quote). length p.shares) e ∙ (quote_fits c).four
@@ -112,19 +129,26 @@ module _ (r : Register) (f : Filing) where
             let past : r.used + (r.used + line_length - r.used) ≡ r.used + line_length = omega arith in
             (granted.0, simp (drop-drop, past, written, quoted, given, known.numbered sound) granted.1)
 
+-- a refusal of the case, and that of the register, in the code's answers
+pub line_refused : (r : Register) (f : Filing) (x : Refusal) → number x ≡ refusal_of f.line
+    → FiledAs r f (record { refusal = number x; used = 0 }) r.bytes
+line_refused r f x e = case_refused r f (number x) e (λ z. omega (arith, number_positive x))
+
+pub register_refused : (r : Register) (f : Filing) (fault : Fault) → Known r (scanned_as (Err fault)) → refusal_of f.line ≡ 0
+    → FiledAs r f (record { refusal = 11; used = 0 }) r.bytes
+register_refused r f fault known accepted = state_refused r f (scanned_as (Err fault)) known accepted (λ z. omega arith)
+
+pub same_refusal : (x : Result Entered Refusal) → refusal_number x ≡ (entered_as x).refusal
+same_refusal (Ok entered) = refl
+same_refusal (Err r) = refl
+
 -- the used length and what is known of the register after an answer
 module _ (r : Register) (f : Filing) (k : Scanned) (known : Known r k) (a : Filed) (answered : a ≡ (file_step r f).answer) where
   said : a.refusal ≡ file_refusal r f
   unfolding file_step
   said = ap (λ (x : Filed). x.refusal) answered ∙ answer_refusal (file_refusal r f) _
 
-  pub granted_low : a.refusal ≡ 0 → number_from k.next f < 4294967296
-  unfolding file_refusal number_given
-  granted_low h =
-      let none : file_refusal r f ≡ 0 = sym said ∙ h in
-      rw (known.numbered (known.checked ∙ file_sound r f none)) (refusal_none f _ (length r.bytes) r.used (used_lines r) none).free
-
-  pub granted_next : (used : ℕ) (k' : Scanned) → a.refusal ≡ 0 → used ≡ a.used → k'.refusal ≡ k.refusal
+  pub granted_next : (used : ℕ) (k' : Scanned) → a.refusal ≡ 0 → used ≡ a.used → k'.refusal ≡ 0
       → k'.next ≡ following (number_from k.next f) → (used ≡ (file_step r f).state.used) × Known (file_step r f).state k'
   unfolding file_step number_given
   granted_next used k' h moved same more =
@@ -133,7 +157,7 @@ module _ (r : Register) (f : Filing) (k : Scanned) (known : Known r k) (a : File
       let sound = known.checked ∙ file_sound r f none in (
         moved ∙ ap (λ (x : Filed). x.used) (answered ∙ answer_granted (file_refusal r f) _ none),
         record {
-          checked = same ∙ sound ∙ sym after.checked;
+          checked = same ∙ sym after.checked;
           numbered = λ _. more ∙ ap (λ (n : ℕ). following (number_from n f)) (known.numbered sound) ∙ sym after.next;
         },
       )

@@ -18,7 +18,7 @@ ghost use Rattle.split.specs.Quote.{quote_of};
 
 use answers::Quote;
 use frame::Cursor;
-pub use frame::{LONGEST, has_bad_character, hex_value, number_at};
+pub use frame::{LONGEST, digit_value, has_bad_character, hex_value, number_at};
 pub use overlong::keep_line;
 
 // The refusal of a line of a length that no case has.

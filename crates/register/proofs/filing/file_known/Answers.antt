@@ -1,17 +1,18 @@
--- `file_known` is the definition `file_step`: by the case's refusal, else by what `enter` ensures.
-use mathlib.Core.Path.{sym, ◌∙◌}
-use Rattle.register.proofs.FileLoop.{quote_says, case_refused}
+-- `file_known` is the definition `file_step`: by the case's refusal, the register's, and else by what `enter` ensures.
+use mathlib.Core.Path.{◌∙◌, ap}
+use Rattle.std.proofs.lemmas.Result.{err_from_is_err_and}
+use Rattle.refusals.specs.Numbers.{number}
+use Rattle.register.proofs.FileLoop.{line_refused, register_refused}
 use Rattle.register.proofs.filing.file_known.Goals as goal
 
-pub returns-then-quote-ne0 : goal.returns-then-quote-ne0
-returns-then-quote-ne0 c =
-    let p = case_refused _ _ _ (quote_says _ _ c.quote-quote.ensures) c.if-quote-ne0.true in
-    (c.refused.ensures ∙ p.0, p.1)
+pub returns-in_err-quote : goal.returns-in_err-quote
+returns-in_err-quote c =
+    let e = err_from_is_err_and c.from_residual.result c.from_residual.ensures.1 in
+    let p = line_refused _ _ e.0 (ap number e.2 ∙ c.in_err-quote.ensures) in
+    rw e.1 (record { answered = p.0; bytes = p.1; numbered = tt })
 
-pub enter-requires : goal.enter-requires
-enter-requires c =
-    let quoted = c.quote-quote.ensures in
-    (c.requires, sym (quote_says _ _ quoted) ∙ c.if-quote-ne0.false, quoted)
-
-pub returns : goal.returns
-returns c = c.enter.ensures
+pub returns-in_err-last : goal.returns-in_err-last
+returns-in_err-last c =
+    let e = err_from_is_err_and c.from_residual-in_err-last.result c.from_residual-in_err-last.ensures.1 in
+    let p = register_refused _ _ c.in_err-last.field-0.0 (rw c.in_err-last.was at c.requires) c.in_ok-quote.ensures.1 in
+    rw (e.1, e.2) (record { answered = p.0; bytes = p.1; numbered = tt })

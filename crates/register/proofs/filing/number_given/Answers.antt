@@ -1,9 +1,10 @@
--- `number_given` is the definition's choice, branch by branch.
-use borrow.Author.Tests.{eq-eqb, ne_eqb}
+-- `number_given` is the definition's choice, by whether there is a last line: the number behind one is not 0.
+use Prim.Native.Nat.{◌+◌}
+use native.Mathlib.Omega.{arith}
+use borrow.Author.Tests.{ne_eqb}
+use Rattle.register.specs.Check.{following}
 use Rattle.register.proofs.filing.number_given.Goals as goal
 
-pub returns-then-next-ne0 : goal.returns-then-next-ne0
-returns-then-next-ne0 c = simp (ne_eqb _ 0 c.if-next-ne0.true)
-
-pub returns : goal.returns
-returns c = simp (eq-eqb _ 0 c.if-next-ne0.false) c.number_set.ensures
+pub returns-in-Some : goal.returns-in-Some
+unfolding following
+returns-in-Some c = simp (c.in-Some.is, c.following_number.ensures, ne_eqb (c.in-Some.number + 1) 0 (omega arith))
