@@ -13,7 +13,7 @@ use lib.Dec.{ltb, eqb}
 use lib.ListN.{length, get_or, take, drop, length-take, length-drop}
 use lib.Seq.{get_or-take, get_or-drop, drop-drop}
 use borrow.Author.Count.{below_more}
-use borrow.Author.Tests.{lt-ltb, le-ltb, eq-eqb, not-true}
+use borrow.Author.Tests.{lt-ltb, le-ltb, eq-eqb, ne_eqb, not-true}
 use Rattle.calendar.proofs.TestsLaws.{and_left, and_right, any_spans}
 use Rattle.split.specs.Frame.{hex_value, is_no_digit, bad_character, digit_at, number_at}
 use Rattle.split.proofs.FrameLaws.{digit_known}
@@ -44,6 +44,11 @@ right_next place wrong passed right h =
       | yes past ↦ right past
       | no here ↦ simp (eq-eqb place figure_width (omega arith)) at passed
     ]
+
+-- a number behind a line is not 0, which stands for any
+pub following_some : (number : ℕ) → eqb (following number) 0 ≡ false
+unfolding following
+following_some number = ne_eqb _ 0 (omega arith)
 
 -- of a number's digits i are read: they make the value where they are digits, and it has room for the others
 pub record FigureRead (s : List ℕ) (at value i : ℕ) : Type 0 where

@@ -15,10 +15,12 @@ use Rattle.split.specs.Refusal.{refusal_of, line_conditions, conditions_with, co
 use Rattle.split.specs.Case.{head_of, pensions_of}
 use Rattle.split.specs.Quote.{quote_of}
 use Rattle.split.proofs.QuoteLaws.{quote_fits, quote_refusal}
-use Rattle.register.specs.Answers.{Filed}
+use Rattle.register.specs.Answers.{Filed, filed_as}
 use Rattle.register.specs.declared.answers.FiledLines.{FiledLines}
-use Rattle.std.specs.Prelude.{Result, Ok, Err}
+use Rattle.std.specs.Prelude.{Result, Ok, Err, IsErrAnd}
+use Rattle.std.proofs.lemmas.Result.{err_from_is_err_and}
 use Rattle.refusals.specs.declared.Refusal.{Refusal}
+use Rattle.refusals.specs.declared.Refusal.TheVariants.{BadRegister}
 use Rattle.refusals.specs.Numbers.{number, refusal_number}
 use Rattle.refusals.proofs.NumbersLaws.{number_positive}
 use Rattle.register.specs.declared.answers.Fault.{Fault}
@@ -137,6 +139,13 @@ line_refused r f x e = case_refused r f (number x) e (λ z. omega (arith, number
 pub register_refused : (r : Register) (f : Filing) (fault : Fault) → Known r (scanned_as (Err fault)) → refusal_of f.line ≡ 0
     → FiledAs r f (record { refusal = 11; used = 0 }) r.bytes
 register_refused r f fault known accepted = state_refused r f (scanned_as (Err fault)) known accepted (λ z. omega arith)
+
+pub scan_refused : (r : Register) (f : Filing) (fault : Fault) (answer : Result ℕ Refusal) → IsErrAnd answer (λ e. e ≡ BadRegister)
+    → ScannedAs (check_of r) (used_lines r) (scanned_as (Err fault)) → refusal_of f.line ≡ 0
+    → FiledAs r f (filed_as answer) r.bytes
+scan_refused r f fault answer refused scanned accepted =
+    let e = err_from_is_err_and answer refused in
+    rw (e.1, e.2) (register_refused r f fault (scan_known scanned) accepted)
 
 pub same_refusal : (x : Result Entered Refusal) → refusal_number x ≡ (entered_as x).refusal
 same_refusal (Ok entered) = refl

@@ -2,7 +2,7 @@
 use mathlib.Core.Path.{◌∙◌, ap}
 use Rattle.std.proofs.lemmas.Result.{err_from_is_err_and}
 use Rattle.refusals.specs.Numbers.{number}
-use Rattle.register.proofs.FileLoop.{scan_known, line_refused, register_refused}
+use Rattle.register.proofs.FileLoop.{line_refused, scan_refused}
 use Rattle.register.proofs.filing.file.Goals as goal
 
 pub returns-in_err-quote : goal.returns-in_err-quote
@@ -12,7 +12,4 @@ returns-in_err-quote c =
     rw e.1 (p.0, p.1)
 
 pub returns-in_err-last : goal.returns-in_err-last
-returns-in_err-last c =
-    let e = err_from_is_err_and c.from_residual-in_err-last.result c.from_residual-in_err-last.ensures.1 in
-    let p = register_refused _ _ c.in_err-last.field-0.0 (scan_known c.in_err-last.ensures) c.in_ok-quote.ensures.1 in
-    rw (e.1, e.2) (p.0, p.1)
+returns-in_err-last c = scan_refused _ _ _ c.from_residual-in_err-last.result c.from_residual-in_err-last.ensures.1 c.in_err-last.ensures c.in_ok-quote.ensures.1

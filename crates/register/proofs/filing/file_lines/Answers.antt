@@ -1,5 +1,6 @@
 -- `file_lines` keeps that the lines passed have been filed (`Passed`), so that at the text's end all are.
-use mathlib.Core.Path.{refl, sym, ◌∙◌, ap}
+use Rattle.std.specs.Prelude.{Ok}
+use mathlib.Core.Path.{◌≡◌, refl, sym, ◌∙◌, ap}
 use native.Mathlib.Omega.{arith}
 use borrow.Author.Rules.{rules}
 use Rattle.register.specs.Answers.{Filed}
@@ -29,10 +30,11 @@ loop-at-preserved c =
       passed_next p cut.result c.loop-at-test.true cut.ensures _ _ _ _ _ filed.ensures.bytes
           (elim c.match-filed.branch [
             | in-Ok w ↦
-                let entered = rw w.in-Ok.is at filed.ensures.numbered in
-                granted_next _ _ _ p.known _ filed.ensures.answered _ _ (ap (λ x. (entered_as x).refusal) w.in-Ok.is)
-                (w.filled-is ∙ ap (λ x. (entered_as x).used) (sym w.in-Ok.is)) (ap (λ k. (scanned_as k).refusal) w.known-is)
-                (ap (λ k. (scanned_as k).next) w.known-is ∙ ap following entered)
+                let granted : filed.result ≡ Ok w.in-Ok.entered = w.in-Ok.is in
+                let given = rw granted at filed.ensures.numbered in
+                granted_next _ _ _ p.known _ filed.ensures.answered _ _ (ap (λ x. (entered_as x).refusal) granted)
+                (w.filled-is ∙ ap (λ x. (entered_as x).used) (sym granted)) (ap (λ k. (scanned_as k).refusal) w.known-is)
+                (ap (λ k. (scanned_as k).next) w.known-is ∙ ap following given)
             | in_default w ↦
                 refused_next _ _ _ p.known _ filed.ensures.answered _ _
                 (λ z. omega (arith, number_positive w.in_default.field-0, ap (λ x. (entered_as x).refusal) w.in_default.is)) w.filled-is
