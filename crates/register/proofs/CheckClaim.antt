@@ -12,7 +12,7 @@ use native.Mathlib.Omega.{arith}
 use lib.ListN.{length, get_or}
 use borrow.Author.Tests.{lt-ltb, le-ltb, eqb-true, eqb-false, not-false}
 use Rattle.split.proofs.FrameLaws.{digit_range}
-use Rattle.register.specs.declared.answers.Checked.{Checked}
+use Rattle.register.specs.Answers.{Checked}
 use Rattle.register.specs.Line.{figure_width, text_length, number_in}
 use Rattle.register.specs.Layout.{Layout, Register, length_of, used_lines_by, line_layout}
 use Rattle.register.specs.Check.{following, wrong_number, sound, unsound, bad_at, line_fault, check_lines_by, bad_used_by, check_by}

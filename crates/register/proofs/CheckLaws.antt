@@ -15,7 +15,7 @@ use lib.ListN.{length, get_or}
 use borrow.Author.Tests.{lt-ltb, le-ltb, ltb-true, ltb-false, eqb-true, eq-eqb, ne_eqb, not-false}
 use Rattle.calendar.proofs.TestsLaws.{or_left, or_right}
 use Rattle.split.proofs.FrameLaws.{number_below}
-use Rattle.register.specs.declared.answers.Checked.{Checked}
+use Rattle.register.specs.Answers.{Checked}
 use Rattle.register.specs.Line.{figure_width, text_length, line_for, number_in}
 use Rattle.register.specs.Layout.{Layout, Register, length_of, used_lines_by, used_by, line_layout, line_length}
 use Rattle.register.specs.Check.{following, number_after, wrong_number, unsound, bad_at, first_bad, line_fault, check_lines_by, bad_used_by, check_by}

@@ -13,13 +13,12 @@ use lib.Dec.{ltb, eqb}
 use lib.ListN.{length, get_or, take, drop, length-take, length-drop}
 use lib.Seq.{get_or-take, get_or-drop, drop-drop}
 use borrow.Author.Count.{below_more}
-use borrow.Author.Tests.{lt-ltb, le-ltb, eq-eqb, not-true}
+use borrow.Author.Tests.{lt-ltb, le-ltb, eq-eqb, ne_eqb, not-true}
 use Rattle.calendar.proofs.TestsLaws.{and_left, and_right, any_spans}
 use Rattle.split.specs.Frame.{hex_value, is_no_digit, bad_character, digit_at, number_at}
 use Rattle.split.proofs.FrameLaws.{digit_known}
 use Rattle.split.proofs.HexLaws.{number_part}
-use Rattle.register.specs.declared.answers.Checked.{Checked}
-use Rattle.register.specs.declared.checking.Scanned.{Scanned}
+use Rattle.register.specs.Answers.{Checked}
 use Rattle.register.specs.Line.{figure_width, number_place, number_in}
 use Rattle.register.specs.Layout.{Layout, lent, length_of, cut_lines, used_lines_by}
 use Rattle.register.specs.Check.{following, number_after, wrong_number, sound, unsound, bad_at, line_fault, check_lines_by}
@@ -45,6 +44,11 @@ right_next place wrong passed right h =
       | yes past ↦ right past
       | no here ↦ simp (eq-eqb place figure_width (omega arith)) at passed
     ]
+
+-- a number behind a line is not 0, which stands for any
+pub following_some : (number : ℕ) → eqb (following number) 0 ≡ false
+unfolding following
+following_some number = ne_eqb _ 0 (omega arith)
 
 -- of a number's digits i are read: they make the value where they are digits, and it has room for the others
 pub record FigureRead (s : List ℕ) (at value i : ℕ) : Type 0 where
@@ -220,9 +224,6 @@ module _ (y : Layout) (wide : figure_width ≤ y.text) (s : List ℕ) where
             }
 
 -- what a stop tells
-pub scanned_unsound : {found : Checked} {ls : List (List ℕ)} {k : Scanned} {at : ℕ} → k ≡ record { refusal = 11; offset = at; next = 0 }
-    → found ≡ unsound at → ScannedAs found ls k
-scanned_unsound e stopped = record {
-  checked = ap (λ (x : Scanned). record { refusal = x.refusal; offset = x.offset }) e ∙ sym stopped;
-  numbered = λ none. absurd (omega (arith, ap (λ (x : Scanned). x.refusal) e));
-}
+pub scanned_unsound : {found : Checked} {ls : List (List ℕ)} {at : ℕ} → found ≡ unsound at
+    → ScannedAs found ls (record { refusal = 11; offset = at; next = 0 })
+scanned_unsound stopped = record { checked = sym stopped; numbered = λ none. absurd (omega arith) }

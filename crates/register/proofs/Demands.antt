@@ -18,8 +18,7 @@ use Rattle.calendar.proofs.CalendarLaws.{calendar_range}
 use Rattle.split.specs.Case.{head_of, pensions_of}
 use Rattle.split.specs.Refusal.{line_conditions, undated_head, undated, conditions_with, conditions, refusal_of}
 use Rattle.split.proofs.FrameLaws.{number_below}
-use Rattle.register.specs.declared.answers.Checked.{Checked}
-use Rattle.register.specs.declared.answers.Filed.{Filed}
+use Rattle.register.specs.Answers.{Checked, Filed}
 use Rattle.register.specs.Line.{figure_width, number_place, figures_in, line_for, number_in}
 use Rattle.register.specs.Layout.{Register, lent, line_layout, used_lines}
 use Rattle.register.specs.Check.{following}

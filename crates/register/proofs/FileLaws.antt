@@ -16,7 +16,7 @@ use Rattle.calendar.proofs.TestsLaws.{by_zero, none_holds}
 use Rattle.split.specs.Frame.{number_at}
 use Rattle.split.specs.Refusal.{refusal_of}
 use Rattle.split.proofs.FrameLaws.{number_below, number_split}
-use Rattle.register.specs.declared.answers.Filed.{Filed}
+use Rattle.register.specs.Answers.{Filed}
 use Rattle.register.specs.Line.{line_for, number_in}
 use Rattle.register.specs.Layout.{Register, lent, line_length, used_lines}
 use Rattle.register.specs.Check.{following, number_after, next_number, wrong_number}

@@ -13,19 +13,26 @@ use Rattle.split.specs.Answers.{Quote}
 use Rattle.split.specs.Refusal.{refusal_of}
 use Rattle.split.specs.Quote.{quote_of}
 use Rattle.split.proofs.QuoteLaws.{quote_fits}
-use Rattle.register.specs.declared.answers.Filed.{Filed}
+use Rattle.register.specs.Answers.{Filed, filed_as}
 use Rattle.register.specs.declared.answers.FiledLines.{FiledLines}
-use Rattle.register.specs.declared.checking.Scanned.{Scanned}
+use Rattle.std.specs.Prelude.{Result, Ok, Err, IsErrAnd}
+use Rattle.std.proofs.lemmas.Result.{err_from_is_err_and}
+use Rattle.refusals.specs.declared.Refusal.{Refusal}
+use Rattle.refusals.specs.declared.Refusal.TheVariants.{BadRegister}
+use Rattle.refusals.specs.Numbers.{number, refusal_number}
+use Rattle.refusals.proofs.NumbersLaws.{number_positive}
+use Rattle.register.specs.declared.answers.Fault.{Fault}
+use Rattle.register.specs.declared.filing.Entered.{Entered}
 use Rattle.register.specs.Line.{share_count, figures_of, figures_for, line_text, line_for}
 use Rattle.register.specs.Layout.{Register, lent, line_length, used_lines}
 use Rattle.register.specs.Check.{following, check_of}
 use Rattle.register.specs.Steps.{runs}
 use Rattle.register.specs.File.{Filing, filing, number_from, number_given, refusal_given, file_refusal, filed_answer, text_filed, over, grown, file_step, file_run}
 use Rattle.register.specs.Text.{text_lines, text_filings, refusal_bytes, FiledText, FiledAll}
-use Rattle.register.specs.Scan.{ScannedAs, Known, LineEnd}
+use Rattle.register.specs.Scan.{Scanned, scanned_as, ScannedAs, Known, entered_as, LineEnd}
 use Rattle.register.proofs.LineLaws.{line_for-length}
 use Rattle.register.proofs.StepsLaws.{runs_answer, runs_state, runs_count}
-use Rattle.register.proofs.FileLaws.{refusal_none, answer_granted, answer_refused, answer_refusal, text_granted, text_refused, grown_none}
+use Rattle.register.proofs.FileLaws.{answer_granted, answer_refused, answer_refusal, text_granted, text_refused, grown_none}
 use Rattle.register.proofs.TextLaws.{line_cut, lines_none, refusals_size}
 use Rattle.register.proofs.Shown.{file_sound, step_sound}
 use Rattle.register.proofs.Demands.{list_claim}
@@ -109,19 +116,33 @@ module _ (r : Register) (f : Filing) where
             let past : r.used + (r.used + line_length - r.used) ≡ r.used + line_length = omega arith in
             (granted.0, simp (drop-drop, past, written, quoted, given, known.numbered sound) granted.1)
 
+-- a refusal of the case, and that of the register, in the code's answers
+pub line_refused : (r : Register) (f : Filing) (x : Refusal) → number x ≡ refusal_of f.line
+    → FiledAs r f (record { refusal = number x; used = 0 }) r.bytes
+line_refused r f x e = case_refused r f (number x) e (λ z. omega (arith, number_positive x))
+
+pub register_refused : (r : Register) (f : Filing) (fault : Fault) → Known r (scanned_as (Err fault)) → refusal_of f.line ≡ 0
+    → FiledAs r f (record { refusal = 11; used = 0 }) r.bytes
+register_refused r f fault known accepted = state_refused r f (scanned_as (Err fault)) known accepted (λ z. omega arith)
+
+pub scan_refused : (r : Register) (f : Filing) (fault : Fault) (answer : Result ℕ Refusal) → IsErrAnd answer (λ e. e ≡ BadRegister)
+    → ScannedAs (check_of r) (used_lines r) (scanned_as (Err fault)) → refusal_of f.line ≡ 0
+    → FiledAs r f (filed_as answer) r.bytes
+scan_refused r f fault answer refused scanned accepted =
+    let e = err_from_is_err_and answer refused in
+    rw (e.1, e.2) (register_refused r f fault (scan_known scanned) accepted)
+
+pub same_refusal : (x : Result Entered Refusal) → refusal_number x ≡ (entered_as x).refusal
+same_refusal (Ok entered) = refl
+same_refusal (Err r) = refl
+
 -- the used length and what is known of the register after an answer
 module _ (r : Register) (f : Filing) (k : Scanned) (known : Known r k) (a : Filed) (answered : a ≡ (file_step r f).answer) where
   said : a.refusal ≡ file_refusal r f
   unfolding file_step
   said = ap (λ (x : Filed). x.refusal) answered ∙ answer_refusal (file_refusal r f) _
 
-  pub granted_low : a.refusal ≡ 0 → number_from k.next f < 4294967296
-  unfolding file_refusal number_given
-  granted_low h =
-      let none : file_refusal r f ≡ 0 = sym said ∙ h in
-      rw (known.numbered (known.checked ∙ file_sound r f none)) (refusal_none f _ (length r.bytes) r.used (used_lines r) none).free
-
-  pub granted_next : (used : ℕ) (k' : Scanned) → a.refusal ≡ 0 → used ≡ a.used → k'.refusal ≡ k.refusal
+  pub granted_next : (used : ℕ) (k' : Scanned) → a.refusal ≡ 0 → used ≡ a.used → k'.refusal ≡ 0
       → k'.next ≡ following (number_from k.next f) → (used ≡ (file_step r f).state.used) × Known (file_step r f).state k'
   unfolding file_step number_given
   granted_next used k' h moved same more =
@@ -130,7 +151,7 @@ module _ (r : Register) (f : Filing) (k : Scanned) (known : Known r k) (a : File
       let sound = known.checked ∙ file_sound r f none in (
         moved ∙ ap (λ (x : Filed). x.used) (answered ∙ answer_granted (file_refusal r f) _ none),
         record {
-          checked = same ∙ sound ∙ sym after.checked;
+          checked = same ∙ sym after.checked;
           numbered = λ _. more ∙ ap (λ (n : ℕ). following (number_from n f)) (known.numbered sound) ∙ sym after.next;
         },
       )

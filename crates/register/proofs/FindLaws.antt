@@ -2,9 +2,10 @@
 -- fails, and the lines older and newer than it with itself are all lines; a number's place among sound lines; what a find
 -- answers and how many lines it compares, by the check and by whether some line passes; and that the bytes where a line is
 -- located are the line found. By induction on the lines. Assumes nothing.
-use Prim.Native.Nat.{ℕ, zero, suc, ◌+◌, ◌-◌, ◌*◌, ◌/◌, ◌≤◌, ◌<◌}
+use Prim.Native.Nat.{ℕ, zero, suc, ◌+◌, ◌*◌, ◌/◌, ◌≤◌, ◌<◌}
 use mathlib.Core.Bool.{Bool, true, false, cond, ◌||◌, or-false, false≢true}
 use mathlib.Core.List.{List, [], ◌∷◌, ◌++◌}
+use Rattle.std.specs.Prelude.{Some}
 use mathlib.Core.Path.{◌≡◌, refl, sym, ◌∙◌, ap}
 use native.Mathlib.Nat.{suc-mul, div-add-mod', mul-le-mul_right}
 use native.Mathlib.Omega.{arith}
@@ -13,13 +14,12 @@ use lib.ListN.{length, get_or, take, drop}
 use borrow.Author.Tests.{eqb-true, eqb-false, eq-eqb, ne_eqb}
 use Rattle.calendar.specs.Tests.{any}
 use Rattle.calendar.proofs.TestsLaws.{or_left, or_right, any_snoc, none_any, some_any}
-use Rattle.register.specs.declared.answers.Located.{Located}
-use Rattle.register.specs.declared.answers.LocatedMember.{LocatedMember}
+use Rattle.register.specs.Answers.{Located, LocatedMember}
 use Rattle.register.specs.Line.{figure_width, number_in}
 use Rattle.register.specs.Layout.{Register, Layout, length_of, used_lines_by}
 use Rattle.register.specs.Check.{check_lines_by, check_by}
 use Rattle.register.specs.Find.{has_number, has_member, last_where, last_place, find_refusal_by, find_line_by, locate_by, newer_lines, with_found, lines_compared, compared_by, locate_member_by}
-use Rattle.register.specs.Scan.{LastAt}
+use Rattle.register.specs.Scan.{FoundAt}
 use Rattle.register.proofs.LayoutLaws.{cut_count, cut_at}
 use Rattle.register.proofs.CheckLaws.{sound_number, check_sound}
 
@@ -92,21 +92,20 @@ module _ (y : Layout) (wide : figure_width ≤ y.text) (ls : List (List ℕ)) (s
   number_none : ((k : ℕ) → k < length ls → first + k ≡ number → ⊥) → any (has_number number) ls ≡ false
   number_none other = none_any (has_number number) ls [] (λ k h. ne_eqb _ number (λ e. other k h (sym (number_by_place k h) ∙ e)))
 
-  pub number_before : number < first → (place : ℕ) → length ls ≤ place → LastAt (has_number number) ls place
-  number_before low place past = record {
-    found = λ h. absurd (omega arith);
-    absent = λ h. number_none (λ k i e. omega arith);
-  }
+  pub number_before : number < first → any (has_number number) ls ≡ false
+  number_before low = number_none (λ k i e. omega arith)
 
-  pub number_behind : first ≤ number → LastAt (has_number number) ls (number - first)
-  number_behind high = record {
-    found = λ h.
-        let here = eq-eqb (number_in (get_or ls (number - first) [])) number (omega (arith, number_by_place (number - first) h)) in (
-          some_any (has_number number) ls (number - first) [] h here,
-          last_at (has_number number) ls (number - first) h here (λ j i m. ne_eqb _ number (λ e. omega (arith, number_by_place j m))),
-        );
-    absent = λ h. number_none (λ k i e. omega arith);
-  }
+  module _ (place : ℕ) (e : first + place ≡ number) where
+    pub number_past : length ls ≤ place → any (has_number number) ls ≡ false
+    number_past h = number_none (λ k i same. omega arith)
+
+    pub number_found : place < length ls → FoundAt (has_number number) ls (Some place)
+    number_found h =
+        let here = eq-eqb (number_in (get_or ls place [])) number (number_by_place place h ∙ e) in (
+          h,
+          some_any (has_number number) ls place [] h here,
+          last_at (has_number number) ls place h here (λ j i m. ne_eqb _ number (λ same. omega (arith, number_by_place j m))),
+        )
 
 module _ (y : Layout) (f : List ℕ → Bool) (r : Register) where
   -- by what the check gave, and by whether some line passes

@@ -4,25 +4,23 @@
 use Prim.Native.Nat.{ℕ, suc, ◌+◌, ◌-◌, ◌*◌, ◌/◌, ◌≤◌, ◌<◌}
 use mathlib.Core.Bool.{Bool, true, false, or-true, or-false}
 use mathlib.Core.List.{List, [], ◌∷◌, ◌++◌, append-nil}
+use Rattle.std.specs.Prelude.{Option, Some, None, IfSome}
 use mathlib.Core.Path.{◌≡◌, sym, ◌∙◌, ap}
-use native.Mathlib.Decide.{dec_lt}
-use native.Mathlib.Nat.{zero-add, zero-mul}
+use native.Mathlib.Nat.{zero-add, zero-mul, div-add-mod', mul-le-mul_right}
 use native.Mathlib.Omega.{arith}
 use lib.Dec.{eqb}
 use lib.ListN.{length, get_or}
-use borrow.Author.Tests.{lt-ltb, le-ltb}
 use Rattle.calendar.specs.Tests.{any}
 use Rattle.calendar.proofs.TestsLaws.{any_snoc}
 use Rattle.split.specs.Frame.{is_no_digit, number_at, hex_text}
 use Rattle.split.proofs.FrameLaws.{digit_known}
 use Rattle.split.proofs.HexLaws.{hex_length, hex_good, hex_back, number_same, number_other, number_part}
 use Rattle.register.specs.Line.{figure_width, member_place, number_in, member_in}
-use Rattle.register.specs.declared.answers.Checked.{Checked}
-use Rattle.register.specs.declared.answers.Located.{Located}
+use Rattle.register.specs.Answers.{Checked, Located}
 use Rattle.register.specs.Layout.{Register, Layout, length_of, cut_lines, used_lines_by}
 use Rattle.register.specs.Check.{check_lines_by, check_by}
 use Rattle.register.specs.Find.{last_place, has_member, locate_by, newer_lines, with_found, lines_compared, locate_member_by}
-use Rattle.register.specs.Scan.{DigitsAt, LastAt, placed_by}
+use Rattle.register.specs.Scan.{DigitsAt, FoundAt, placed_by}
 use Rattle.register.proofs.LayoutLaws.{line_at, cut_count, cut_at, cut_snoc}
 use Rattle.register.proofs.CheckLaws.{sound_good, check_sound}
 use Rattle.register.proofs.CheckLoop.{line_number, good_digits}
@@ -42,14 +40,12 @@ module _ (y : Layout) (f : List ℕ → Bool) (s : List ℕ) (n i : ℕ) (same :
         let e : i ≡ suc (i - 1) = omega arith in
         ap (λ (k : ℕ). cut_lines y k s) e ∙ cut_snoc y (i - 1) s
 
-    pub same_hit : f (line_at y s ((i - 1) * length_of y)) ≡ true → LastAt f (cut_lines y n s) (i - 1)
-    same_hit t = record {
-      found = λ _. (
-        same.some ∙ simp (parts, any_snoc f (cut_lines y (i - 1) s) (line_at y s ((i - 1) * length_of y)), t, or-true),
-        same.place ∙ simp (parts, place_snoc, t, cut_count),
-      );
-      absent = λ a. absurd (omega (arith, same.within, cut_count y n s));
-    }
+    pub same_hit : f (line_at y s ((i - 1) * length_of y)) ≡ true → FoundAt f (cut_lines y n s) (Some (i - 1))
+    same_hit t = (
+      omega (arith, same.within, cut_count y n s),
+      same.some ∙ simp (parts, any_snoc f (cut_lines y (i - 1) s) (line_at y s ((i - 1) * length_of y)), t, or-true),
+      same.place ∙ simp (parts, place_snoc, t, cut_count),
+    )
 
     pub same_miss : f (line_at y s ((i - 1) * length_of y)) ≡ false → Same y f s n (i - 1)
     same_miss t = record {
@@ -58,27 +54,21 @@ module _ (y : Layout) (f : List ℕ → Bool) (s : List ℕ) (n i : ℕ) (same :
       some = same.some ∙ simp (parts, any_snoc f (cut_lines y (i - 1) s) (line_at y s ((i - 1) * length_of y)), t, or-false);
     }
 
-  pub same_none : i ≤ 0 → LastAt f (cut_lines y n s) n
+  pub same_none : i ≤ 0 → any f (cut_lines y n s) ≡ false
   unfolding cut_lines
-  same_none h =
-      let e : i ≡ 0 = omega arith in
-      record {
-        found = λ a. absurd (omega (arith, cut_count y n s));
-        absent = λ _. same.some ∙ simp e;
-      }
+  same_none h = let e : i ≡ 0 = omega arith in same.some ∙ simp e
 
 -- the lines that a search compared, by where it ended: the newer ones and the line found, or all
-module _ (f : List ℕ → Bool) (ls : List (List ℕ)) (place : ℕ) (last : LastAt f ls place) where
-  pub counted_hit : (newer : ℕ) → place + suc newer ≡ length ls → with_found newer ≡ lines_compared f ls
+module _ (f : List ℕ → Bool) (ls : List (List ℕ)) where
+  pub counted_hit : (place newer : ℕ) → FoundAt f ls (Some place) → place + suc newer ≡ length ls → with_found newer ≡ lines_compared f ls
   unfolding lines_compared
-  counted_hit newer e =
-      let found = last.found (omega arith) in
-      let same : newer_lines f ls ≡ newer = omega (arith, last_newer f ls found.0) in
-      simp (found.0, same)
+  counted_hit place newer found e =
+      let same : newer_lines f ls ≡ newer = omega (arith, found.2, last_newer f ls found.1) in
+      simp (found.1, same)
 
-  pub counted_none : length ls ≤ place → length ls ≡ lines_compared f ls
+  pub counted_none : any f ls ≡ false → length ls ≡ lines_compared f ls
   unfolding lines_compared
-  counted_none h = simp (last.absent h)
+  counted_none none = simp none
 
 -- a member that is written: its digits, and what comparing them with a line's tells of the line
 module _ (digits : List ℕ) (member : ℕ) (written : digits ≡ hex_text figure_width member) where
@@ -133,6 +123,18 @@ first_line_number y wide s n h =
     ap number_in (cut_at y n s 0 (omega (arith, cut_count y n s)) ∙ ap (line_at y s) (zero-mul (length_of y)))
     ∙ line_number y wide s 0
 
+-- the place found of a line is within the used length
+pub place_fits : (y : Layout) (f : List ℕ → Bool) (r : Register) (place : Option ℕ) → FoundAt f (used_lines_by y r) place
+    → r.used < 18446744073709551616 → IfSome place (λ p. p * length_of y < 18446744073709551616)
+place_fits y f r None none low = tt
+place_fits y f r (Some place) found low =
+    let next : place ≤ r.used / length_of y = omega (arith, found.0, cut_count y (r.used / length_of y) r.bytes) in
+    omega (
+      arith,
+      mul-le-mul_right (length_of y) next,
+      div-add-mod' r.used (length_of y),
+    )
+
 -- what a find knows by what the check gave, and what it answers by the place of the last line that passes
 module _ (y : Layout) (r : Register) (checked : Checked) (e : checked ≡ check_by y r) where
   same_check : (check_by y r).refusal ≡ checked.refusal
@@ -145,20 +147,11 @@ module _ (y : Layout) (r : Register) (checked : Checked) (e : checked ≡ check_
     pub lines_sound : (r.used ≤ length r.bytes) × ((check_lines_by y 0 0 (used_lines_by y r)).refusal ≡ 0)
     lines_sound = let k = check_sound y r (same_check ∙ good) in (k.0, k.2)
 
-    pub answered : (f : List ℕ → Bool) (place : ℕ) → LastAt f (used_lines_by y r) place → locate_by y f r ≡ placed_by y r.used place
-    unfolding placed_by
-    answered f place last =
-        let count = cut_count y (r.used / length_of y) r.bytes in
-        elim (dec_lt place (r.used / length_of y)) [
-          | yes h ↦
-              let found = last.found (omega arith) in
-              simp (lt-ltb place (r.used / length_of y) h)
-              (locate_found y f r (same_check ∙ good) found.0
-              ∙ ap (λ (k : ℕ). record { refusal = 0; offset = k * length_of y; length = length_of y }) found.1)
-          | no h ↦
-              simp (le-ltb place (r.used / length_of y) (omega arith))
-              (locate_absent y f r (same_check ∙ good) (last.absent (omega arith)))
-        ]
+    pub answered : (f : List ℕ → Bool) (place : Option ℕ) → FoundAt f (used_lines_by y r) place → locate_by y f r ≡ placed_by y place
+    answered f None none = locate_absent y f r (same_check ∙ good) none
+    answered f (Some place) found =
+        locate_found y f r (same_check ∙ good) found.1
+        ∙ ap (λ (k : ℕ). record { refusal = 0; offset = k * length_of y; length = length_of y }) found.2
 
   -- the same of a member, with the lines compared
   module _ (member : ℕ) (located : Located) where
@@ -168,8 +161,8 @@ module _ (y : Layout) (r : Register) (checked : Checked) (e : checked ≡ check_
     member_unchecked h at =
         simp (compared_unsound y (has_member member) r (λ z. h (sym same_check ∙ z)), at, unchecked (has_member member) h)
 
-    pub member_answered : checked.refusal ≡ 0 → (place compared : ℕ) → LastAt (has_member member) (used_lines_by y r) place
-        → compared ≡ lines_compared (has_member member) (used_lines_by y r) → located ≡ placed_by y r.used place
+    pub member_answered : checked.refusal ≡ 0 → (place : Option ℕ) (compared : ℕ) → FoundAt (has_member member) (used_lines_by y r) place
+        → compared ≡ lines_compared (has_member member) (used_lines_by y r) → located ≡ placed_by y place
         → record { located = located; compared = compared } ≡ locate_member_by y member r
     unfolding locate_member_by
     member_answered good place compared last count at =

@@ -8,8 +8,7 @@ use native.Mathlib.Omega.{arith}
 use lib.Dec.{eqb}
 use lib.ListN.{length, drop}
 use borrow.Author.Tests.{eqb-true, not-false}
-use Rattle.register.specs.declared.answers.Checked.{Checked}
-use Rattle.register.specs.declared.answers.Filed.{Filed}
+use Rattle.register.specs.Answers.{Checked, Filed}
 use Rattle.register.specs.Line.{line_for}
 use Rattle.register.specs.Layout.{Register, line_layout, bytes_of, used_by, used_lines}
 use Rattle.register.specs.Check.{following, next_number, check_by, check_lines, check_of}

@@ -8,7 +8,7 @@ use native.Mathlib.Omega.{arith}
 use lib.Dec.{eqb}
 use lib.ListN.{length, get_or, take, drop, set, length-append, length-drop, drop_of_length-le}
 use lib.Seq.{get_or-drop, drop-drop}
-use Rattle.register.specs.declared.answers.Filed.{Filed}
+use Rattle.register.specs.Answers.{Filed}
 use Rattle.register.specs.Text.{lines_with, text_lines, refusal_bytes}
 use Rattle.register.specs.Scan.{LineEnd}
 

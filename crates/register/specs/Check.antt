@@ -2,7 +2,7 @@
 -- lines; the check goes along them and stops at the first bad character of the first bad line. Assumes nothing.
 use Rattle.std.specs.Prelude.{ℕ, zero, suc, ◌+◌, ◌-◌, ◌%◌, Bool, cond, not, ◌||◌, List, [], ◌∷◌, ltb, eqb, length, get_or}
 use Rattle.split.specs.Frame.{is_no_digit}
-use Rattle.register.specs.declared.answers.Checked.{Checked}
+use Rattle.register.specs.Answers.{Checked}
 use Rattle.register.specs.Line.{figure_width, number_in}
 use Rattle.register.specs.Layout.{Register, Layout, length_of, used_lines_by, line_layout}
 

@@ -3,7 +3,7 @@
 -- wrong with a line that is otherwise good, and `fail_place` is where that is reported. Assumes nothing.
 use Rattle.std.specs.Prelude.{ℕ, zero, suc, ◌+◌, ◌*◌, ◌≤◌, ◌<◌, List, ◌⊎◌, ◌≡◌, length, get_or, take, drop}
 use Rattle.split.specs.Frame.{number_at}
-use Rattle.register.specs.declared.answers.Checked.{Checked}
+use Rattle.register.specs.Answers.{Checked}
 use Rattle.register.specs.Layout.{Register}
 use Rattle.register.specs.Check.{check_of}
 

@@ -4,7 +4,7 @@ use Rattle.std.specs.Prelude.{ℕ, ◌+◌, ◌-◌, ◌*◌, Bool, cond, not, L
 use Rattle.calendar.specs.Tests.{lowest}
 use Rattle.split.specs.Case.{head_of}
 use Rattle.split.specs.Refusal.{refusal_of}
-use Rattle.register.specs.declared.answers.Filed.{Filed}
+use Rattle.register.specs.Answers.{Filed}
 use Rattle.register.specs.Line.{figures_for, figures_in, line_for}
 use Rattle.register.specs.Layout.{Register, line_length, used_lines}
 use Rattle.register.specs.Check.{next_number, check_of}

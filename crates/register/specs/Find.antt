@@ -2,8 +2,7 @@
 -- that compared (request [1] of document 02), for any layout of a line. Assumes nothing.
 use Rattle.std.specs.Prelude.{ℕ, suc, ◌+◌, ◌*◌, ◌≤◌, Bool, true, cond, List, [], ◌∷◌, ◌++◌, ◌≡◌, eqb, length}
 use Rattle.calendar.specs.Tests.{any}
-use Rattle.register.specs.declared.answers.Located.{Located}
-use Rattle.register.specs.declared.answers.LocatedMember.{LocatedMember}
+use Rattle.register.specs.Answers.{Located, LocatedMember}
 use Rattle.register.specs.Line.{number_in, member_in}
 use Rattle.register.specs.Layout.{Register, Layout, length_of, used_lines_by, line_layout}
 use Rattle.register.specs.Check.{check_by}

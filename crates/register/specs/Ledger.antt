@@ -5,7 +5,7 @@ use Rattle.split.specs.Case.{head_of}
 use Rattle.split.specs.Refusal.{refusal_of}
 use Rattle.split.specs.Quote.{BestLumps}
 use Rattle.split.specs.Claims.{benefits_in, RemainingClaim, AllowanceClaim, InTurn}
-use Rattle.register.specs.declared.answers.Filed.{Filed}
+use Rattle.register.specs.Answers.{Filed}
 use Rattle.register.specs.Line.{figures_for, figures_in, line_for, total_in, shares_in, lumps_in_line}
 use Rattle.register.specs.Layout.{Register, bytes_of, used_by}
 use Rattle.register.specs.Check.{bad_used, check_lines}

@@ -1,18 +1,38 @@
 -- Definitions for the contracts of private functions: what the code knows of a register that it went along, of a line that it
--- looked for, and of a line's end that it looked for, and what it makes on the way to a line. Nothing here has to be believed.
+-- looked for, of a case that it files, and of a line's end that it looked for, and what it makes on the way to a line. Nothing here has to be believed.
 -- Assumes nothing.
-use Rattle.std.specs.Prelude.{ℕ, ◌+◌, ◌*◌, ◌/◌, ◌%◌, ◌≤◌, ◌<◌, Bool, true, false, cond, List, [], ◌∷◌, ◌≡◌, ltb, eqb, map, length, get_or}
+use Rattle.std.specs.Prelude.{ℕ, ◌+◌, ◌*◌, ◌/◌, ◌%◌, ◌≤◌, ◌<◌, Bool, true, false, List, [], ◌∷◌, ◌≡◌, eqb, map, length, get_or, Option, Some, None, Result, Ok, Err, IfOk}
 use Rattle.std.specs.Int.{w32, to_be_bytes}
 use Rattle.std.specs.List.{flat_map}
 use Rattle.calendar.specs.Tests.{any}
 use Rattle.split.specs.Frame.{is_no_digit, hex_character}
-use Rattle.register.specs.declared.answers.Checked.{Checked}
-use Rattle.register.specs.declared.answers.Located.{Located}
-use Rattle.register.specs.declared.checking.Scanned.{Scanned}
+use Rattle.refusals.specs.declared.Refusal.{Refusal}
+use Rattle.refusals.specs.Numbers.{number}
+use Rattle.register.specs.declared.answers.Fault.{Fault}
+use Rattle.register.specs.declared.filing.Entered.{Entered}
+use Rattle.register.specs.Answers.{Checked, Located, Filed}
 use Rattle.register.specs.Line.{figure_width}
 use Rattle.register.specs.Layout.{Register, Layout, length_of, used_lines, line_layout}
-use Rattle.register.specs.Check.{next_number, check_lines, check_of}
+use Rattle.register.specs.Check.{following, next_number, check_lines, check_of}
 use Rattle.register.specs.Find.{last_place}
+use Rattle.register.specs.File.{Filing, number_from, file_step}
+
+-- what going along a register finds: the check's refusal and offset, and where there is none the number that a next line must have,
+-- 0 where there is no line
+pub record Scanned : Type 0 where
+  pub refusal : ℕ
+  pub offset : ℕ
+  pub next : ℕ
+
+-- the number that a line behind the last one must have; 0, for any from 1, where there is none
+abbrev pub next_after : Option ℕ → ℕ
+next_after None = 0
+next_after (Some last) = following last
+
+-- how what is bad, or the last line's number, reads as these
+abbrev pub scanned_as : Result (Option ℕ) Fault → Scanned
+scanned_as (Ok last) = record { refusal = 0; offset = 0; next = next_after last }
+scanned_as (Err fault) = record { refusal = 11; offset = fault.offset; next = 0 }
 
 -- what going along lines finds: what the check found, and where that is none the number that a next line must have
 pub record ScannedAs (found : Checked) (ls : List (List ℕ)) (k : Scanned) : Type 0 where
@@ -32,20 +52,29 @@ DigitsAt s at n = (j : ℕ) → j < n → is_no_digit (get_or s (at + j) 0) ≡ 
 abbrev pub SoundLines : List (List ℕ) → Type 0
 SoundLines ls = (check_lines 0 0 ls).refusal ≡ 0
 
--- the place of the last of the lines that passes a test, or their count or more where none does
-pub record LastAt (f : List ℕ → Bool) (ls : List (List ℕ)) (place : ℕ) : Type 0 where
-  pub found : place < length ls → (any f ls ≡ true) × (last_place f ls ≡ place)
-  pub absent : length ls ≤ place → any f ls ≡ false
+-- the place of the last of the lines that passes a test, and none where none does
+abbrev pub FoundAt : (List ℕ → Bool) → List (List ℕ) → Option ℕ → Type 0
+FoundAt f ls None = any f ls ≡ false
+FoundAt f ls (Some place) = (place < length ls) × (any f ls ≡ true) × (last_place f ls ≡ place)
 
--- where the line at a place is, and 14 where the place is behind the used lines
-unfoldable pub placed_by : Layout → ℕ → ℕ → Located
-placed_by y used place =
-    cond (ltb place (used / length_of y))
-    (record { refusal = 0; offset = place * length_of y; length = length_of y })
-    (record { refusal = 14; offset = 0; length = 0 })
+-- where the line at a place is, and 14 where there is none
+abbrev pub placed_by : Layout → Option ℕ → Located
+placed_by y None = record { refusal = 14; offset = 0; length = 0 }
+placed_by y (Some place) = record { refusal = 0; offset = place * length_of y; length = length_of y }
 
-abbrev pub placed : ℕ → ℕ → Located
-placed used place = placed_by line_layout used place
+abbrev pub placed : Option ℕ → Located
+placed place = placed_by line_layout place
+
+-- how a line that was filed, or the refusal, reads as the answer of a filing
+abbrev pub entered_as : Result Entered Refusal → Filed
+entered_as (Ok entered) = record { refusal = 0; used = entered.used }
+entered_as (Err r) = record { refusal = number r; used = 0 }
+
+-- what a filing answers and leaves, and the number of its line, where `next` is the number that a next line must have
+pub record EnteredAs (r : Register) (f : Filing) (next : ℕ) (answer : Result Entered Refusal) (after : List ℕ) : Type 0 where
+  pub answered : entered_as answer ≡ (file_step r f).answer
+  pub bytes : after ≡ (file_step r f).state.bytes
+  pub numbered : IfOk answer (λ (e : Entered). e.number ≡ number_from next f)
 
 -- the end of the line that begins at a place: no newline before it, and a newline or the text's end at it
 pub record LineEnd (text : List ℕ) (at end : ℕ) : Type 0 where

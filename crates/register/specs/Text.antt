@@ -1,6 +1,6 @@
 -- A text of case lines and the claim of demand 3 as the contract of the call that files them all. Assumes nothing.
 use Rattle.std.specs.Prelude.{ℕ, Bool, true, false, cond, List, [], ◌∷◌, ◌++◌, map, ◌≡◌, eqb, length}
-use Rattle.register.specs.declared.answers.Filed.{Filed}
+use Rattle.register.specs.Answers.{Filed}
 use Rattle.register.specs.declared.answers.FiledLines.{FiledLines}
 use Rattle.register.specs.Layout.{Register, lent}
 use Rattle.register.specs.File.{Filing, filing, file_run}

@@ -1,36 +1,41 @@
-// What the check of a register finds: refusal 0 or 11, and with 11 the offset of what is bad.
-#[derive(Clone, Copy)]
-pub struct Checked {
-    pub refusal: u8,
+// What the calls answer where nothing is refused, and what the check finds bad.
+ghost use Rattle.std.specs.Prelude.{◌≡◌};
+ghost use Rattle.refusals.specs.declared.Refusal.TheVariants.{BadRegister};
+
+use refusals::Refusal;
+
+// What the check finds bad in a register: the first of it, by its offset.
+#[derive(Clone, Copy, Debug, PartialEq, Eq)]
+pub struct Fault {
     pub offset: usize,
 }
 
-// What filing answers: refusal 0 and the used length past the new line, or the refusal and 0.
-#[derive(Clone, Copy)]
-pub struct Filed {
-    pub refusal: u8,
-    pub used: usize,
+impl From<Fault> for Refusal {
+    ghost from_gives = { λ _ refusal. refusal ≡ BadRegister };
+
+    fn from(_fault: Fault) -> Refusal {
+        Refusal::BadRegister
+    }
 }
 
 // What filing the lines of a text answers: the used length from then on, and how many lines there were.
-#[derive(Clone, Copy)]
+#[derive(Clone, Copy, Debug, PartialEq, Eq)]
 pub struct FiledLines {
     pub used: usize,
     pub lines: usize,
 }
 
-// Where finding finds a line: refusal 0 with its offset and length in the register, or the refusal and zeros.
-#[derive(Clone, Copy)]
-pub struct Located {
-    pub refusal: u8,
+// Where a line stands in the register.
+#[derive(Clone, Copy, Debug, PartialEq, Eq)]
+pub struct Extent {
     pub offset: usize,
     pub length: usize,
 }
 
-// What finding a member's newest line gives: where it is, or the refusal and zeros, and how many lines were compared, from the
-// newest back: 0 under 11, all lines under 14.
-#[derive(Clone, Copy)]
-pub struct LocatedMember {
-    pub located: Located,
+// What finding a member's newest line gives: where it is, or the refusal, and how many lines were compared, from the newest back:
+// 0 in a bad register, and all lines where the member is absent.
+#[derive(Clone, Copy, Debug, PartialEq, Eq)]
+pub struct FoundMember {
+    pub line: Result<Extent, Refusal>,
     pub compared: usize,
 }

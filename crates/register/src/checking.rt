@@ -1,12 +1,13 @@
 // The check of a register.
-ghost use Rattle.std.specs.Prelude.{◌≡◌, false, cond, not, ◌&&◌, ◌+◌, ◌%◌, ◌≤◌, ◌<◌, ltb, eqb, length, get_or, take};
-ghost use Rattle.split.specs.Frame.{hex_value, is_no_digit, bad_character, number_at};
+ghost use Rattle.std.specs.Prelude.{◌≡◌, cond, not, ◌&&◌, ◌+◌, ◌%◌, ◌≤◌, ltb, eqb, length, get_or, take};
+ghost use Rattle.split.specs.Frame.{is_no_digit, bad_character, number_at};
 ghost use Rattle.register.specs.Line.{figure_width, text_length};
 ghost use Rattle.register.specs.Layout.{lent, line_length, used_lines};
 ghost use Rattle.register.specs.Check.{following, wrong_number, bad_used, check_lines, check_of};
-ghost use Rattle.register.specs.Scan.{ScannedAs, DigitsAt};
+ghost use Rattle.register.specs.Answers.{checked_as};
+ghost use Rattle.register.specs.Scan.{next_after, scanned_as, ScannedAs, DigitsAt};
 
-use crate::answers::Checked;
+use crate::answers::Fault;
 use crate::layout::{FIGURE_WIDTH, LINE_LENGTH, TEXT_LENGTH};
 
 // Characters that the compiler judges together, how many of a line's digits fill whole spans, and where its last span begins.
@@ -15,25 +16,6 @@ const SPAN: usize = 16;
 const WHOLE_SPANS: usize = TEXT_LENGTH / SPAN * SPAN;
 
 const LAST_SPAN: usize = TEXT_LENGTH - SPAN;
-
-// What going along a register finds: the check's refusal and offset, and where there is none the number that a next line
-// must have, 0 where there is no line.
-#[derive(Clone, Copy)]
-pub struct Scanned {
-    pub refusal: u8,
-    pub offset: usize,
-    pub next: u64,
-}
-
-fn unsound(offset: usize) -> Scanned
-    ensures { result ≡ record { refusal = 11; offset = offset; next = 0 } }
-{
-    Scanned {
-        refusal: 11,
-        offset,
-        next: 0,
-    }
-}
 
 // Whether a character may not stand at a place of a line.
 fn is_bad(character: u8, place: usize) -> bool
@@ -56,44 +38,33 @@ fn has_layout(line: &[u8]) -> bool
     !(bad_whole | bad_last) & (line[TEXT_LENGTH] == b'\n')
 }
 
-// The value of a character that is a digit, and some number below 16 of any other.
-fn digit_value(character: u8) -> u32
-    ensures { (result < 16) × (is_no_digit character ≡ false → result ≡ hex_value character % 16) }
-{
-    let code = character as u32;
-    (code % 16 + 9 * (code / 64)) % 16
-}
-
 // The number of the line at a place, where its characters are digits. It is worked out without asking whether they are.
 fn line_number(register: &[u8], at: usize) -> u32
     requires { at + figure_width ≤ length register.now }
     ensures { DigitsAt register.now at figure_width → result ≡ number_at register.now at figure_width }
 {
     let mut value: u32 = 0;
-    let mut i = 0;
-    while i < FIGURE_WIDTH {
-        value = value * 16 + digit_value(register[at + i]);
-        i += 1;
+    for i in 0..FIGURE_WIDTH {
+        value = value * 16 + split::digit_value(register[at + i]) as u32;
     }
     value
 }
 
 // The number that follows another.
-pub fn following_number(number: u64) -> u64
-    requires { number < 8589934592 }
+pub fn following_number(number: u32) -> u64
     ensures { result ≡ following number }
 {
-    number + 1
+    number as u64 + 1
 }
 
-// Whether a line has another number than expected; 0 is expected before the first, which may have any from 1.
-fn is_wrong_number(expected: u64, number: u32) -> bool
-    ensures { result ≡ wrong_number expected number }
+// Whether a line behind the last one has a wrong number: the first of all may have any from 1, and the others the following one.
+fn is_wrong_number(last: Option<u32>, number: u32) -> bool
+    ensures { result ≡ wrong_number (next_after last) number }
 {
-    if expected == 0 {
-        return number == 0;
+    match last {
+        Some(last) => number as u64 != following_number(last),
+        None => number == 0,
     }
-    number as u64 != expected
 }
 
 fn is_bad_used(buffer: usize, used: usize) -> bool
@@ -102,56 +73,50 @@ fn is_bad_used(buffer: usize, used: usize) -> bool
     (buffer < used) | !(used % LINE_LENGTH == 0)
 }
 
-// Goes along whole lines to the fault of the first bad one. Only a bad line's characters are gone through one by one.
-fn scan_lines(register: &[u8], used: usize) -> Scanned
+// Goes along whole lines to the fault of the first bad one; the last line's number, and None where there is no line. Only a bad
+// line's characters are gone through one by one.
+fn scan_lines(register: &[u8], used: usize) -> Result<Option<u32>, Fault>
     requires { (used ≤ length register.now) × (used % line_length ≡ 0) }
-    ensures { ScannedAs (check_lines 0 0 (used_lines (lent register.now used))) (used_lines (lent register.now used)) result }
+    ensures { ScannedAs (check_lines 0 0 (used_lines (lent register.now used))) (used_lines (lent register.now used)) (scanned_as result) }
 {
     let mut at = 0;
-    let mut expected: u64 = 0;
+    let mut last = None;
     'lines: loop {
         if used <= at {
-            break 'lines Scanned {
-                refusal: 0,
-                offset: 0,
-                next: expected,
-            };
+            break 'lines Ok(last);
         }
         let number = line_number(register, at);
-        let wrong = is_wrong_number(expected, number);
+        let wrong = is_wrong_number(last, number);
         let whole = has_layout(&register[at..at + LINE_LENGTH]);
         if wrong | !whole {
             for place in 0..LINE_LENGTH {
                 if (place == FIGURE_WIDTH) & wrong {
-                    break 'lines unsound(at);
+                    break 'lines Err(Fault { offset: at });
                 }
                 if is_bad(register[at + place], place) {
-                    break 'lines unsound(at + place);
+                    break 'lines Err(Fault { offset: at + place });
                 }
             }
         }
-        expected = following_number(number as u64);
+        last = Some(number);
         at += LINE_LENGTH;
     }
 }
 
-// Goes along the used part of a register.
-pub fn scan(register: &[u8], used: usize) -> Scanned
-    ensures { ScannedAs (check_of (lent register.now used)) (used_lines (lent register.now used)) result }
+// Goes along the used part of a register: what is bad, or the last line's number, and None where there is no line.
+pub fn scan(register: &[u8], used: usize) -> Result<Option<u32>, Fault>
+    ensures { ScannedAs (check_of (lent register.now used)) (used_lines (lent register.now used)) (scanned_as result) }
 {
     if is_bad_used(register.len(), used) {
-        return unsound(used);
+        return Err(Fault { offset: used });
     }
     scan_lines(register, used)
 }
 
-// The check of the used part of a register: 11 and the offset of what is bad, or 0 and 0.
-pub fn check(register: &[u8], used: usize) -> Checked
-    ensures { result ≡ check_of (lent register.now used) }
+// The check of the used part of a register: what is bad, if anything is.
+pub fn check(register: &[u8], used: usize) -> Result<(), Fault>
+    ensures { checked_as result ≡ check_of (lent register.now used) }
 {
-    let scanned = scan(register, used);
-    Checked {
-        refusal: scanned.refusal,
-        offset: scanned.offset,
-    }
+    scan(register, used)?;
+    Ok(())
 }

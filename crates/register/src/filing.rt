@@ -1,16 +1,17 @@
 // Filing a case: the next line after the used part and no other byte, or a refusal and no byte at all.
-ghost use Rattle.std.specs.Prelude.{◌≡◌};
+ghost use Rattle.std.specs.Prelude.{◌≡◌, Ok};
 ghost use Rattle.split.specs.Refusal.{refusal_of};
 ghost use Rattle.split.specs.Quote.{as_quote, quote_of};
 ghost use Rattle.register.specs.Layout.{lent};
 ghost use Rattle.register.specs.File.{filing, number_set, number_from, file_step};
 ghost use Rattle.register.specs.Text.{FiledText, FiledAll};
-ghost use Rattle.register.specs.Scan.{Known};
+ghost use Rattle.register.specs.Answers.{filed_as};
+ghost use Rattle.register.specs.Scan.{next_after, scanned_as, Known, EnteredAs};
 
-use crate::answers::{Filed, FiledLines};
-use crate::checking::Scanned;
+use crate::answers::{Fault, FiledLines};
 use crate::layout::LINE_LENGTH;
 use crate::{checking, layout, text};
+use refusals::Refusal;
 use split::answers::Granted;
 
 // Where the commencement date stands in a case line.
@@ -21,12 +22,6 @@ const YEAR_UNIT: u32 = 65536;
 
 // How far the default first numbers of one year and the next are apart.
 const YEAR_NUMBERS: u64 = 100000;
-
-fn refused(refusal: u8) -> Filed
-    ensures { result ≡ record { refusal = refusal; used = 0 } }
-{
-    Filed { refusal, used: 0 }
-}
 
 // The number that a filing sets in an empty register: the first number, and for 0 the default of its case.
 fn number_set(first_number: u32, line: &[u8]) -> u64
@@ -39,76 +34,83 @@ fn number_set(first_number: u32, line: &[u8]) -> u64
     first_number as u64
 }
 
-// The number given to a line that must have the next number, where 0 stands for any: then it is the one that the filing sets.
-fn number_given(next: u64, first_number: u32, line: &[u8]) -> u64
-    ensures { result ≡ number_from next (filing first_number line.now) }
+// The number given behind the last line, and where there is none the one that the filing sets.
+fn number_given(last: Option<u32>, first_number: u32, line: &[u8]) -> u64
+    ensures { result ≡ number_from (next_after last) (filing first_number line.now) }
 {
-    if next != 0 {
-        return next;
+    match last {
+        Some(number) => checking::following_number(number),
+        None => number_set(first_number, line),
     }
-    number_set(first_number, line)
 }
 
-// Files an accepted case, of which this is the quote, in a register that was gone along.
+// A line that was filed: its number, and the used length past it.
+#[derive(Clone, Copy)]
+struct Entered {
+    number: u32,
+    used: usize,
+}
+
+// Files an accepted case, of which this is the quote, in a sound register, of which the last line's number is known.
 fn enter(
     register: &mut [u8],
     used: usize,
-    known: Scanned,
+    last: Option<u32>,
     first_number: u32,
     line: &[u8],
     quote: Granted,
-) -> Filed
-    requires { Known (lent register.old used) known × (refusal_of line.now ≡ 0) × (as_quote quote ≡ quote_of line.now) }
-    ensures { (result ≡ (file_step (lent register.old used) (filing first_number line.now)).answer) × (register.new ≡ (file_step (lent register.old used) (filing first_number line.now)).state.bytes) }
+) -> Result<Entered, Refusal>
+    requires { Known (lent register.old used) (scanned_as (Ok last)) × (refusal_of line.now ≡ 0) × (as_quote quote ≡ quote_of line.now) }
+    ensures { EnteredAs (lent register.old used) (filing first_number line.now) (next_after last) result register.new }
 {
-    if known.refusal != 0 {
-        return refused(11);
-    }
     if register.len() - used < LINE_LENGTH {
-        return refused(12);
+        return Err(Refusal::RegisterFull);
     }
-    let number = number_given(known.next, first_number, line);
+    let number = number_given(last, first_number, line);
     if 4294967296 <= number {
-        return refused(13);
+        return Err(Refusal::NumbersUsedUp);
     }
     let end = used + LINE_LENGTH;
     layout::write_line(&mut register[used..end], number as u32, quote);
-    Filed {
-        refusal: 0,
+    Ok(Entered {
+        number: number as u32,
         used: end,
-    }
+    })
 }
 
 // Files a case in a register that was gone along.
+#[tactic(auto, using(split::proofs::QuoteLaws::granted_line))]
 fn file_known(
     register: &mut [u8],
     used: usize,
-    known: Scanned,
+    known: Result<Option<u32>, Fault>,
     first_number: u32,
     line: &[u8],
-) -> Filed
-    requires { Known (lent register.old used) known }
-    ensures { (result ≡ (file_step (lent register.old used) (filing first_number line.now)).answer) × (register.new ≡ (file_step (lent register.old used) (filing first_number line.now)).state.bytes) }
+) -> Result<Entered, Refusal>
+    requires { Known (lent register.old used) (scanned_as known) }
+    ensures { EnteredAs (lent register.old used) (filing first_number line.now) (scanned_as known).next result register.new }
 {
-    match split::quote(line) {
-        Ok(quote) => enter(register, used, known, first_number, line, quote),
-        Err(refusal) => refused(refusal.number()),
-    }
+    let quote = split::quote(line)?;
+    let last = known?;
+    enter(register, used, last, first_number, line, quote)
 }
 
-// Files a case: refusals 1 to 13, the lowest, with used length 0; or the used length past the new line. The register is
-// checked for an accepted case only. The line gets the first number in an empty register, where 0 stands for the default of the
-// case, and the last plus one in one that has lines.
-pub fn file(register: &mut [u8], used: usize, first_number: u32, line: &[u8]) -> Filed
-    ensures { (result ≡ (file_step (lent register.old used) (filing first_number line.now)).answer) × (register.new ≡ (file_step (lent register.old used) (filing first_number line.now)).state.bytes) }
+// Files a case: the lowest of the refusals that apply, or the used length past the new line. The register is checked for an
+// accepted case only. The line gets the first number in an empty register, where 0 stands for the default of the case, and the
+// last plus one in one that has lines.
+#[tactic(auto, using(split::proofs::QuoteLaws::granted_line))]
+pub fn file(
+    register: &mut [u8],
+    used: usize,
+    first_number: u32,
+    line: &[u8],
+) -> Result<usize, Refusal>
+    ensures { (filed_as result ≡ (file_step (lent register.old used) (filing first_number line.now)).answer) × (register.new ≡ (file_step (lent register.old used) (filing first_number line.now)).state.bytes) }
 {
-    match split::quote(line) {
-        Ok(quote) => {
-            let known = checking::scan(register, used);
-            enter(register, used, known, first_number, line, quote)
-        }
-        Err(refusal) => refused(refusal.number()),
-    }
+    let quote = split::quote(line)?;
+    let last = checking::scan(register, used)?;
+    let entered = enter(register, used, last, first_number, line, quote)?;
+    Ok(entered.used)
 }
 
 // Files the lines of a text one after the other, each with the same first number, with one check of the register: the used length
@@ -130,12 +132,11 @@ pub fn file_lines(
         let end = text::line_end(lines, at);
         let filed = file_known(register, filled, known, first_number, &lines[at..end]);
         if count < refusals.len() {
-            refusals[count] = filed.refusal;
+            refusals[count] = refusals::number_of(&filed);
         }
-        if filed.refusal == 0 {
-            filled = filed.used;
-            let number = number_given(known.next, first_number, &lines[at..end]);
-            known.next = checking::following_number(number);
+        if let Ok(entered) = filed {
+            filled = entered.used;
+            known = Ok(Some(entered.number));
         }
         count += 1;
         at = end + 1;

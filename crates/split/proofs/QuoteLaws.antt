@@ -28,7 +28,7 @@ use Rattle.split.specs.Allowance.{no_allowance, allowed}
 use Rattle.split.specs.Limits.{total, WithinCaps, Best}
 use Rattle.split.specs.Grant.{grant}
 use Rattle.split.specs.Working.{case_quote}
-use Rattle.split.specs.Quote.{remaining_of, second_of, share_of, no_share, shares_of, lumps_granted, granted_quote, refused_quote, answered, quote_of, lumps_in, allowance_in, BestLumps, SharesFit, QuoteFits}
+use Rattle.split.specs.Quote.{remaining_of, second_of, share_of, no_share, shares_of, lumps_granted, granted_quote, refused_quote, as_quote, answered, quote_of, lumps_in, allowance_in, BestLumps, SharesFit, QuoteFits}
 use Rattle.calendar.proofs.TestsLaws.{lowest_none, by_zero}
 use Rattle.split.proofs.FrameLaws.{number_below}
 use Rattle.split.proofs.CaseLaws.{pensions_counted}
@@ -210,6 +210,10 @@ pub answered_refusal : (a : Result Granted Refusal) (s : List ℕ) → answered 
 unfolding refused_quote
 answered_refusal (Ok g) s e = ap (λ (q : Quote). q.refusal) e ∙ quote_refusal s
 answered_refusal (Err r) s e = ap (λ (q : Quote). q.refusal) e ∙ quote_refusal s
+
+-- a line whose quote is a grant has no refusal
+pub granted_line : (g : Granted) (s : List ℕ) → as_quote g ≡ quote_of s → refusal_of s ≡ 0
+granted_line g s e = sym (answered_refusal (Ok g) s e)
 
 -- the figures of every quote fit
 pub quote_fits : (s : List ℕ) → QuoteFits (quote_of s)

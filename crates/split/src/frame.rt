@@ -45,7 +45,7 @@ pub fn has_bad_character(line: &[u8]) -> bool
 }
 
 // The value of a character that is a digit, with no branch; of any other, some number below 16.
-fn digit_value(character: u8) -> u8
+pub fn digit_value(character: u8) -> u8
     ensures { (result < 16) × (is_no_digit character ≡ false → result ≡ hex_value character % 16) }
 {
     (character % 16 + 9 * (character / 64)) % 16

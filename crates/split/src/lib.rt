@@ -19,7 +19,7 @@ ghost use Rattle.split.specs.Quote.{answered, quote_of};
 
 use answers::Granted;
 use frame::Cursor;
-pub use frame::{LONGEST, has_bad_character, hex_value, number_at};
+pub use frame::{LONGEST, digit_value, has_bad_character, hex_value, number_at};
 pub use overlong::keep_line;
 use refusals::Refusal;
 

@@ -8,7 +8,7 @@ use Rattle.register.proofs.checking.scan.Goals as goal
 
 pub returns-then-is_bad_used : goal.returns-then-is_bad_used
 unfolding check_by
-returns-then-is_bad_used c = scanned_unsound c.unsound.ensures (simp (sym c.is_bad_used.ensures ∙ c.if-is_bad_used.true))
+returns-then-is_bad_used c = scanned_unsound (simp (sym c.is_bad_used.ensures ∙ c.if-is_bad_used.true))
 
 pub scan_lines-requires : goal.scan_lines-requires
 scan_lines-requires c = used_sound line_layout _ _ (sym c.is_bad_used.ensures ∙ c.if-is_bad_used.false)

@@ -46,8 +46,8 @@ overflow_add-at-in-loop-place c = omega (arith, inside ((goal.at.overflow_add-at
 pub bounds-register-at : goal.bounds-register-at
 bounds-register-at c = omega (arith, inside ((goal.at.bounds-register-at c).Else-used-at))
 
-pub overflow_add-at-then-is_bad : goal.overflow_add-at-then-is_bad
-overflow_add-at-then-is_bad c = omega (arith, inside ((goal.at.overflow_add-at-then-is_bad c).Else-used-at))
+pub overflow_add-result : goal.overflow_add-result
+overflow_add-result c = omega (arith, inside ((goal.at.overflow_add-result c).Else-used-at))
 
 pub overflow_add-at-in-lines : goal.overflow_add-at-in-lines
 overflow_add-at-in-lines c = omega (arith, inside ((goal.at.overflow_add-at-in-lines c).Else-used-at))
@@ -72,15 +72,14 @@ unfolding text_length
 lines-preserved c =
     let s = c.args.register.now in
     let on = left_on line_layout number_inside s c.lines.invariant c.if-used-at.false c.line_number-number.result c.line_number-number.ensures in
-    rw c.following_number-expected.ensures
-    (elim c.if-wrong-whole.branch [
+    elim c.if-wrong-whole.branch [
       | then-wrong-whole+else-loop-place-test b ↦ let all : b.loop-place.place ≡ lineSize = omega arith in
           on (rw all at b.loop-place.invariant.1) (sym c.is_wrong_number-wrong.ensures ∙ b.loop-place.invariant.2 (omega arith)) refl
       | else-wrong-whole b ↦ on
           (good_whole line_layout number_inside s c.lines.at c.has_layout-whole.result (omega (arith, inside ((goal.at.lines-preserved c).Else-used-at))) c.has_layout-whole.ensures
           (not-false _ (or_right c.is_wrong_number-wrong.result (not c.has_layout-whole.result) b.if-wrong-whole.false)))
           (sym c.is_wrong_number-wrong.ensures ∙ or_left c.is_wrong_number-wrong.result (not c.has_layout-whole.result) b.if-wrong-whole.false) refl
-    ])
+    ]
 
 pub returns-then-used-at : goal.returns-then-used-at
 returns-then-used-at c =
@@ -93,7 +92,7 @@ returns-then-place-wrong c =
     let here : p.place ≡ figure_width =
     eqb-true p.place figure_width (and_left (eqb p.place figure_width) c.is_wrong_number-wrong.result c.if-place-wrong.true)
     in
-    scanned_unsound c.unsound.ensures
+    scanned_unsound
     (stop_number line_layout number_inside _ c.lines.invariant c.if-used-at.false _ c.line_number-number.ensures (rw here at p.invariant.1)
     (sym c.is_wrong_number-wrong.ensures ∙ and_right (eqb p.place figure_width) c.is_wrong_number-wrong.result c.if-place-wrong.true))
 
@@ -101,6 +100,6 @@ pub returns-then-is_bad : goal.returns-then-is_bad
 unfolding text_length
 returns-then-is_bad c =
     let p = c.loop-place in
-    scanned_unsound c.unsound-then-is_bad.ensures
+    scanned_unsound
     (stop_character line_layout number_inside _ c.lines.invariant c.if-used-at.false _ c.line_number-number.ensures p.place c.loop-place-test.true p.invariant.1
     (sym c.is_bad.ensures ∙ c.if-is_bad.true) (λ h. sym c.is_wrong_number-wrong.ensures ∙ right ((goal.at.returns-then-is_bad c).Else-place-wrong) h))

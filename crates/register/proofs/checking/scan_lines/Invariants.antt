@@ -5,6 +5,7 @@ use mathlib.Core.Bool.{false}
 use mathlib.Core.Path.{◌≡◌}
 use Rattle.register.specs.Line.{figure_width}
 use Rattle.register.specs.Layout.{line_layout}
+use Rattle.register.specs.Scan.{next_after}
 use Rattle.register.proofs.LayoutLaws.{line_at}
 use Rattle.register.proofs.CheckLaws.{number_inside, Good}
 use Rattle.register.proofs.CheckLoop.{Left}
@@ -22,7 +23,7 @@ abbrev pub decreases-loop-place : goal.decreases-loop-place
 decreases-loop-place l = lineSize - l.place
 
 abbrev pub invariant-lines : goal.invariant-lines
-invariant-lines l = Left line_layout number_inside l.register l.used l.at l.expected
+invariant-lines l = Left line_layout number_inside l.register l.used l.at (next_after l.last)
 
 abbrev pub decreases-lines : goal.decreases-lines
 decreases-lines l = l.used - l.at

@@ -1,9 +1,6 @@
--- `number_given` is the definition's choice, branch by branch.
-use borrow.Author.Tests.{eq-eqb, ne_eqb}
+-- `number_given` is the definition's choice, by whether there is a last line: the number behind one is not 0.
+use Rattle.register.proofs.CheckLoop.{following_some}
 use Rattle.register.proofs.filing.number_given.Goals as goal
 
-pub returns-then-next-ne0 : goal.returns-then-next-ne0
-returns-then-next-ne0 c = simp (ne_eqb _ 0 c.if-next-ne0.true)
-
-pub returns : goal.returns
-returns c = simp (eq-eqb _ 0 c.if-next-ne0.false) c.number_set.ensures
+pub returns-in-Some : goal.returns-in-Some
+returns-in-Some c = simp (c.in-Some.is, c.following_number.ensures, following_some c.in-Some.number)

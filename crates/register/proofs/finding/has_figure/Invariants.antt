@@ -1,13 +1,8 @@
 -- `has_figure` compares the numbers that the digits write: what all of them tell, the first `i` tell.
-use Prim.Native.Nat.{◌≤◌}
 use mathlib.Core.Path.{◌≡◌}
 use Rattle.register.specs.Line.{figure_width}
 use Rattle.register.proofs.FindLoop.{same_figure}
 use Rattle.register.proofs.finding.has_figure.Given as goal
 
 abbrev pub invariant-loop-i : goal.invariant-loop-i
-invariant-loop-i l =
-    (l.i ≤ figure_width) × (same_figure l.register l.at l.digits figure_width ≡ same_figure l.register l.at l.digits l.i)
-
-abbrev pub decreases-loop-i : goal.decreases-loop-i
-decreases-loop-i l = l.i
+invariant-loop-i l = same_figure l.register l.at l.digits figure_width ≡ same_figure l.register l.at l.digits l.i

@@ -1,7 +1,7 @@
 -- `search_member` gives the place of the member's last line and how many lines it compared: what n lines answer, the first `i` of
--- them answer, and `newer` counts the others.
+-- them answer.
 use Prim.Native.Nat.{◌-◌}
-use mathlib.Core.Path.{refl, ◌∙◌}
+use mathlib.Core.Path.{refl, sym, ◌∙◌}
 use native.Mathlib.Omega.{arith}
 use Rattle.register.specs.Line.{text_length}
 use Rattle.register.specs.Layout.{line_layout}
@@ -11,11 +11,7 @@ use Rattle.register.proofs.FindLoop.{same_hit, same_miss, same_none, counted_hit
 use Rattle.register.proofs.finding.search_member.Goals as goal
 
 pub loop-i-init : goal.loop-i-init
-loop-i-init c = (
-  c.write_figure.ensures,
-  record { within = omega arith; place = refl; some = refl },
-  omega arith,
-)
+loop-i-init c = record { within = omega arith; place = refl; some = refl }
 
 pub overflow_mul-i : goal.overflow_mul-i
 unfolding text_length
@@ -27,12 +23,11 @@ overflow_add-i c = omega arith
 
 pub has_figure-requires : goal.has_figure-requires
 unfolding text_length
-has_figure-requires c =
-    let l = c.loop-i in (
-      omega arith,
-      line_digits line_layout number_inside _ _ (l.i - 1) (omega arith) c.requires.1 (omega arith),
-      member_digits _ _ l.invariant.0,
-    )
+has_figure-requires c = (
+  omega arith,
+  line_digits line_layout number_inside _ _ (c.loop-i.i - 1) (omega arith) c.requires.1 (omega arith),
+  member_digits _ _ c.write_figure.ensures,
+)
 
 pub returns-then-has_figure : goal.returns-then-has_figure
 unfolding text_length
@@ -40,28 +35,25 @@ returns-then-has_figure c =
     let l = c.loop-i in
     let args = c.args in
     let last =
-    same_hit line_layout _ _ _ l.i l.invariant.1 c.loop-i-test.true
-    (member_told _ _ l.invariant.0 line_layout _ _ _ (omega arith) (omega arith) c.has_figure.ensures ∙ c.if-has_figure.true)
+    same_hit line_layout _ _ _ l.i l.invariant (omega arith)
+    (member_told _ _ c.write_figure.ensures line_layout _ _ _ (omega arith) (omega arith) c.has_figure.ensures ∙ c.if-has_figure.true)
     in (
       last,
       c.with_found-compared.ensures
-          ∙ counted_hit _ _ _ last l.newer (omega (arith, cut_count line_layout args.n args.register.now)),
+          ∙ counted_hit _ _ _ (args.n - 1 - (l.i - 1)) last (omega (arith, last.0, cut_count line_layout args.n args.register.now)),
     )
 
 pub loop-i-preserved : goal.loop-i-preserved
 unfolding text_length
 loop-i-preserved c =
-    let l = c.loop-i in (
-      l.invariant.0,
-      same_miss line_layout _ _ _ l.i l.invariant.1 c.loop-i-test.true
-          (member_told _ _ l.invariant.0 line_layout _ _ _ (omega arith) (omega arith) c.has_figure.ensures ∙ c.if-has_figure.false),
-      omega arith,
-    )
+    let l = c.loop-i in
+    same_miss line_layout _ _ _ l.i l.invariant (omega arith)
+    (member_told _ _ c.write_figure.ensures line_layout _ _ _ (omega arith) (omega arith) c.has_figure.ensures ∙ c.if-has_figure.false)
 
 pub returns : goal.returns
 returns c =
     let l = c.loop-i in
     let args = c.args in
-    let last = same_none line_layout _ _ _ l.i l.invariant.1 c.loop-i-test.false in
+    let none = same_none line_layout _ _ _ l.i l.invariant (omega arith) in
     let count = cut_count line_layout args.n args.register.now in
-    (last, omega (arith, counted_none _ _ _ last (omega arith)))
+    (none, sym count ∙ counted_none _ _ none)
