@@ -1,11 +1,10 @@
--- Laws of fields: a digit is below 16, a number of n digits below 16 to the n, read a digit at a time or split into two
--- numbers, and a digit's value is arithmetic of its character. Assumes nothing.
+-- Laws of fields: a digit is below 16, a number of n digits below 16 to the n, and split into two numbers, and a digit's value
+-- is arithmetic of its character. Assumes nothing.
 use mathlib.Core.Path.{◌≡◌, refl}
 use mathlib.Core.Bool.{Bool, true, false, cond, ◌&&◌, ◌||◌, true≢false}
 use mathlib.Core.Logic.{◌↔◌, ◌⊎◌, inl, inr, ⊎_elim}
 use Prim.Native.Nat.{ℕ, zero, suc, ◌+◌, ◌-◌, ◌*◌, ◌/◌, ◌%◌, ◌^◌, ◌<◌, ◌≤◌}
 use native.Mathlib.Nat.{add_assoc, add-zero, add-suc, mul_assoc, pow-suc, pow-le-pow_right, lt_of_lt_of_le}
-use native.Mathlib.Numerals.{add-one}
 use native.Mathlib.Omega.{arith}
 use mathlib.Core.List.{List}
 use lib.Dec.{leb, eqb}

@@ -1,15 +1,13 @@
 -- Laws of what is kept of a line's beginning. It has a bad character exactly where the beginning has one, and it is longer than
 -- any case line where the beginning is; so the refusal of both is 1, or both have 2, however the line goes on. Assumes nothing.
-use Prim.Native.Nat.{ℕ, suc, ◌+◌, ◌-◌, ◌≤◌, ◌<◌, min}
+use Prim.Native.Nat.{ℕ, ◌+◌, ◌-◌, ◌≤◌, ◌<◌, min}
 use mathlib.Core.Bool.{Bool, true, false, cond, ◌||◌, or-true, or-false, false≢true}
 use mathlib.Core.List.{List, [], ◌∷◌, ◌++◌, append_assoc}
 use mathlib.Core.Path.{◌≡◌, refl, sym, ◌∙◌, ap}
 use native.Mathlib.Decide.{dec_lt}
-use native.Mathlib.Numerals.{add-one}
-use native.Mathlib.Nat.{add_comm}
 use native.Mathlib.Omega.{arith}
-use lib.ListN.{length, get_or, take, drop, set, take-append-drop, length-append, length-take, length-drop, length-set, drop_of_length-le}
-use lib.Seq.{take_at, length-take-le, take-suc, drop-cons, append_snoc, set_at, get_or-append-add, get_or-drop, take_all, take-length, drop-length, drop-drop}
+use lib.ListN.{length, take, drop, set, take-append-drop, length-append, length-take, length-drop, length-set, drop_of_length-le}
+use lib.Seq.{take_at, take_all, drop-drop}
 use borrow.Author.Tests.{lt-ltb}
 use Rattle.std.specs.List.{copy_within}
 use Rattle.std.proofs.lemmas.List.{take_min, drop_min, set-append_left}
