@@ -79,7 +79,6 @@ fn enter(
 }
 
 // Files a case in a register that was gone along.
-#[tactic(auto, using(split::proofs::QuoteLaws::granted_line))]
 fn file_known(
     register: &mut [u8],
     used: usize,
@@ -98,7 +97,6 @@ fn file_known(
 // Files a case: the lowest of the refusals that apply, or the used length past the new line. The register is checked for an
 // accepted case only. The line gets the first number in an empty register, where 0 stands for the default of the case, and the
 // last plus one in one that has lines.
-#[tactic(auto, using(split::proofs::QuoteLaws::granted_line))]
 pub fn file(
     register: &mut [u8],
     used: usize,

@@ -1,5 +1,5 @@
--- Laws of fields: a digit is below 16, a number of n digits below 16 to the n, read a digit at a time or split into two
--- numbers, and a digit's value is arithmetic of its character. Assumes nothing.
+-- Laws of fields: a digit is below 16, a number of n digits below 16 to the n, and split into two numbers, and a digit's value
+-- is arithmetic of its character. Assumes nothing.
 use mathlib.Core.Path.{◌≡◌, refl}
 use mathlib.Core.Bool.{Bool, true, false, cond, ◌&&◌, ◌||◌, true≢false}
 use mathlib.Core.Logic.{◌↔◌, ◌⊎◌, inl, inr, ⊎_elim}

@@ -7,9 +7,10 @@ use mathlib.Core.Path.{◌≡◌, refl, sym, ◌∙◌, ap}
 use native.Mathlib.Decide.{dec_lt}
 use native.Mathlib.Omega.{arith}
 use lib.ListN.{length, take, drop, set, take-append-drop, length-append, length-take, length-drop, length-set, drop_of_length-le}
-use lib.Seq.{take_at, take_all, take-length, drop-length, drop-drop}
+use lib.Seq.{take_at, take_all, drop-drop}
 use borrow.Author.Tests.{lt-ltb}
 use Rattle.std.specs.List.{copy_within}
+use Rattle.std.proofs.lemmas.List.{take_min, drop_min, set-append_left}
 use Rattle.calendar.proofs.TestsLaws.{any_append}
 use Rattle.split.specs.Frame.{is_no_digit, bad_character, hex_value}
 use Rattle.split.specs.Case.{head_of, longest_line}
@@ -37,11 +38,6 @@ bad_first : (s : List ℕ) → 0 < length s → bad_character (set s 0 0) ≡ tr
 unfolding bad_character is_no_digit hex_value
 bad_first [] h = absurd (omega arith)
 bad_first (c ∷ s) h = refl
-
--- the first of the characters of two texts is that of the first text
-set_first : (s t : List ℕ) → 0 < length s → set (s ++ t) 0 0 ≡ set s 0 0 ++ t
-set_first [] t h = absurd (omega arith)
-set_first (c ∷ s) t h = refl
 
 -- what is kept of a beginning has a bad character where the beginning has
 kept_bad : (s : List ℕ) → bad_character (kept_line s) ≡ bad_character s
@@ -110,21 +106,6 @@ pub kept_stands : (s rest text : List ℕ) (count : ℕ) → count ≡ length (k
 kept_stands s rest text count counted stands more =
     rw (stands, take_at (kept_line s) rest count (sym counted)) (kept_quoted s more)
 
--- as many as there are, of more
-take_min : (k : ℕ) (l : List ℕ) → take k l ≡ take (min k (length l)) l
-take_min k l =
-    elim (dec_lt k (length l)) [
-      | yes h ↦ let e : min k (length l) ≡ k = omega arith in rw e
-      | no h ↦ let e : min k (length l) ≡ length l = omega arith in rw (e, take-length, take_all k l (omega arith))
-    ]
-
-drop_min : (k : ℕ) (l : List ℕ) → drop k l ≡ drop (min k (length l)) l
-drop_min k l =
-    elim (dec_lt k (length l)) [
-      | yes h ↦ let e : min k (length l) ≡ k = omega arith in rw e
-      | no h ↦ let e : min k (length l) ≡ length l = omega arith in rw (e, drop-length, drop_of_length-le l {i = k} (omega arith))
-    ]
-
 -- What the code keeps of what a text has from a place on, or from its end where the place is behind it: so many characters are
 -- moved to the text's start, and the first is made bad where one of the others is.
 module _ (text moved : List ℕ) (from start kept : ℕ) (place : start ≡ min from (length text)) (count : kept ≡ min kept_length (length text - start))
@@ -135,18 +116,18 @@ module _ (text moved : List ℕ) (from start kept : ℕ) (place : start ≡ min 
       let rest : 0 + kept ≡ kept = omega arith in copied ∙ rw (moves, rest)
 
   line : drop from text ≡ drop start text
-  line = drop_min from text ∙ ap (λ (k : ℕ). drop k text) (sym place)
+  line = sym (drop_min from text) ∙ ap (λ (k : ℕ). drop k text) (sym place)
 
   line_count : min kept_length (length (drop from text)) ≡ kept
   line_count = simp length-drop (omega arith)
 
   -- the characters that are kept, and the others
   front : take kept_length (drop from text) ≡ take kept (drop start text)
-  front = take_min kept_length (drop from text) ∙ rw (line_count, line)
+  front = sym (take_min kept_length (drop from text)) ∙ rw (line_count, line)
 
   others : drop kept_length (drop from text) ≡ take (length text - (start + kept)) (drop (start + kept) text)
   others =
-      drop_min kept_length (drop from text)
+      sym (drop_min kept_length (drop from text))
       ∙ rw (line_count, line, drop-drop) (sym (take_all (length text - (start + kept)) (drop (start + kept) text) (simp length-drop (omega arith))))
 
   pub kept_count : kept ≡ length (kept_line (drop from text))
@@ -163,5 +144,5 @@ module _ (text moved : List ℕ) (from start kept : ℕ) (place : start ≡ min 
   kept_made_bad e =
       rw (others, e, front)
       (ap (λ (l : List ℕ). set l 0 0) laid
-      ∙ set_first (take kept (drop start text)) (drop kept text)
+      ∙ set-append_left (take kept (drop start text)) (drop kept text) 0 0
       (simp (length-take, length-drop) (omega (arith, bad_some _ e, length-take (length text - (start + kept)) (drop (start + kept) text)))))

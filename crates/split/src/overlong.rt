@@ -1,5 +1,5 @@
 // Overlong lines: what is kept of the beginning of a line whose end has not been read.
-ghost use Rattle.std.specs.Prelude.{◌≡◌, ◌++◌, ◌+◌, ◌-◌, ◌≤◌, min, length, take, drop};
+ghost use Rattle.std.specs.Prelude.{◌≡◌, ◌++◌, length, take, drop};
 ghost use Rattle.split.specs.Overlong.{kept_line, QuotedAs};
 
 use crate::frame;

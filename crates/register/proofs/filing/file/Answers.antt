@@ -4,7 +4,7 @@ use Rattle.std.specs.Prelude.{Err}
 use Rattle.std.proofs.lemmas.Result.{err_from_is_err_and}
 use Rattle.refusals.specs.Numbers.{number}
 use Rattle.split.proofs.QuoteLaws.{answered_refusal, granted_line}
-use Rattle.register.proofs.FileLoop.{line_refused, scan_refused}
+use Rattle.register.proofs.FileLoop.{scan_known, line_refused, scan_refused}
 use Rattle.register.proofs.filing.file.Goals as goal
 
 pub returns-in_err-quote : goal.returns-in_err-quote
@@ -15,3 +15,6 @@ returns-in_err-quote c =
 
 pub returns-in_err-last : goal.returns-in_err-last
 returns-in_err-last c = scan_refused _ _ _ c.from_residual-in_err-last.result c.from_residual-in_err-last.ensures.1 c.in_err-last.ensures (granted_line _ _ c.in_ok-quote.ensures)
+
+pub enter-requires : goal.enter-requires
+enter-requires c = (scan_known c.in_ok-last.ensures, granted_line _ _ c.in_ok-quote.ensures, c.in_ok-quote.ensures)

@@ -18,3 +18,6 @@ returns-in_err-last c =
     let e = err_from_is_err_and c.from_residual-in_err-last.result c.from_residual-in_err-last.ensures.1 in
     let p = register_refused _ _ c.in_err-last.field-0.0 (rw c.in_err-last.was at c.requires) (granted_line _ _ c.in_ok-quote.ensures) in
     rw (e.1, e.2) (record { answered = p.0; bytes = p.1; numbered = tt })
+
+pub enter-requires : goal.enter-requires
+enter-requires c = (rw c.in_ok-last.was at c.requires, granted_line _ _ c.in_ok-quote.ensures, c.in_ok-quote.ensures)
