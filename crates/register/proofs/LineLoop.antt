@@ -55,6 +55,11 @@ shares_flat : (xs : List Share) → flat_map share_figures xs ≡ shares_figures
 shares_flat [] = refl
 shares_flat (x ∷ xs) = ap (λ (ys : List ℕ). share_figures x ++ ys) (shares_flat xs)
 
+-- digits and what stands behind them are as long as a line
+pub line_long : (digits line : List ℕ) → length digits ≡ text_length → length line ≡ text_length + 1
+    → length (digits ++ drop text_length line) ≡ text_length + 1
+line_long digits line size room = simp (length-append, length-drop) (omega arith)
+
 -- all shares are written, the bytes are spelled, and the newline comes behind their digits
 pub line_written : (f : Figures) (bytes digits line : List ℕ) (n i : ℕ) → length f.shares ≡ share_count → length line ≡ text_length + 1
     → length f.shares ≤ i → length bytes ≤ n → take n bytes ≡ figures_bytes (header_figures f ++ flat_map share_figures (take i f.shares))
@@ -71,7 +76,7 @@ line_written f bytes digits line n i four room last full so_far made =
     in
     let size : length digits ≡ text_length = ap length text ∙ before_length f four in
     let l = digits ++ drop text_length line in
-    let long : length l ≡ text_length + 1 = simp (length-append, length-drop) (omega arith) in
+    let long = line_long digits line size room in
     sym (take_all (text_length + 1) (set l text_length 10) (simp length-set (omega arith)))
     ∙ rw add-one (take-suc-set l text_length 10 (omega arith))
     ∙ ap (λ (t : List ℕ). t ++ (10 ∷ [])) (take_at digits (drop text_length line) text_length size ∙ text)

@@ -1,11 +1,11 @@
 -- `write_line` writes the figures of each share behind those that are written; then their digits are spelled, and the newline comes
 -- last.
-use Rattle.std.proofs.Common.{◌≡◌, ◌+◌, ◌-◌, ◌*◌, length, refl, ap, arith}
+use Rattle.std.proofs.Common.{◌≡◌, ◌+◌, ◌-◌, ◌*◌, length, refl, ap, ◌∙◌, arith, length-take}
 use Rattle.std.proofs.lemmas.Grind.{common_steps}
 use Rattle.std.specs.Int.{w32, to_be_bytes}
 use Rattle.split.specs.Quote.{no_share, as_quote}
 use Rattle.register.specs.Line.{figures_of, header_figures, share_figures, text_length}
-use Rattle.register.proofs.LineLoop.{next_whole, next_written, line_written}
+use Rattle.register.proofs.LineLoop.{next_whole, next_written, line_long, line_written}
 use Rattle.register.proofs.layout.write_line.Goals as goal
 
 pub loop-i-init : goal.loop-i-init
@@ -30,7 +30,10 @@ slice_bounds-write_digits-end c = omega arith
 
 pub bounds-line-120 : goal.bounds-line-120
 unfolding text_length
-bounds-line-120 c = grind (arith, common_steps)
+bounds-line-120 c =
+    let digits = c.write_digits.new.digits in
+    let size : length digits ≡ text_length = c.write_digits.auto.digits ∙ simp length-take (omega (arith, c.requires.0)) in
+    omega (arith, line_long digits c.args.line.now size c.requires.0)
 
 pub returns : goal.returns
 unfolding text_length figures_of
