@@ -3,6 +3,7 @@
 #![tactic(auto)]
 
 mod answers;
+mod conversions;
 
 ghost use Rattle.std.specs.Prelude.{◌≡◌, length, take, drop};
 ghost use Rattle.calendar.specs.Calendar.{date_fault};
@@ -20,7 +21,6 @@ use answers::{
     PensionChecked, PensionCommuted, PensionFiled, PensionFiledLines, PensionFound,
     PensionFoundMember, PensionQuote, PensionWritten,
 };
-use register::answers::{Filed, Located, LocatedMember};
 use split::answers::Quote;
 use trivial_commutation::YearlyAmount;
 
@@ -65,20 +65,7 @@ pub extern "C" fn pension_quote(line: &[u8]) -> PensionQuote
 pub extern "C" fn pension_check(register: &[u8], used: usize) -> PensionChecked
     ensures { result ≡ checked_for_c (check_of (lent register.now used)) }
 {
-    let checked = register::check(register, used);
-    PensionChecked {
-        refusal: checked.refusal as u32,
-        offset: checked.offset,
-    }
-}
-
-fn filed_for_c(filed: Filed) -> PensionFiled
-    ensures { result ≡ filed_for_c filed }
-{
-    PensionFiled {
-        refusal: filed.refusal as u32,
-        used: filed.used,
-    }
+    PensionChecked::from(register::check(register, used))
 }
 
 // Files a case line; in an empty register it gets the first number, where 0 stands for the default.
@@ -91,8 +78,7 @@ pub extern "C" fn pension_file(
 ) -> PensionFiled
     ensures { (result ≡ filed_for_c (file_step (lent register.old used) (filing first_number line.now)).answer) × (register.new ≡ (file_step (lent register.old used) (filing first_number line.now)).state.bytes) }
 {
-    let filed = register::file(register, used, first_number, line);
-    filed_for_c(filed)
+    PensionFiled::from(register::file(register, used, first_number, line))
 }
 
 // Files the lines of a text, each with the same first number.
@@ -126,35 +112,12 @@ pub extern "C" fn pension_file_all(
     register::file_all(register, first_number, lines, refusals)
 }
 
-fn found_for_c(located: Located) -> PensionFound
-    ensures { result ≡ found_for_c located }
-{
-    PensionFound {
-        refusal: located.refusal as u32,
-        offset: located.offset,
-        length: located.length,
-    }
-}
-
 // Where the line with a number is: the same bytes that find_number hands back.
 #[unsafe(no_mangle)]
 pub extern "C" fn pension_find_number(register: &[u8], used: usize, number: u32) -> PensionFound
     ensures { (result ≡ found_for_c (locate (has_number number) (lent register.now used))) × (take result.length (drop result.offset register.now) ≡ find_line (has_number number) (lent register.now used)) }
 {
-    let located = register::locate_number(register, used, number);
-    found_for_c(located)
-}
-
-fn found_member_for_c(found: LocatedMember) -> PensionFoundMember
-    ensures { result ≡ found_member_for_c found }
-{
-    let line = found_for_c(found.located);
-    PensionFoundMember {
-        refusal: line.refusal,
-        offset: line.offset,
-        length: line.length,
-        compared: found.compared,
-    }
+    PensionFound::from(register::locate_number(register, used, number))
 }
 
 // Where a member's newest line is: the same bytes that find_member hands back; and how many lines were compared.
@@ -166,8 +129,7 @@ pub extern "C" fn pension_find_member(
 ) -> PensionFoundMember
     ensures { (result ≡ found_member_for_c (locate_member member (lent register.now used))) × (take result.length (drop result.offset register.now) ≡ find_line (has_member member) (lent register.now used)) }
 {
-    let found = register::locate_member(register, used, member);
-    found_member_for_c(found)
+    PensionFoundMember::from(register::locate_member(register, used, member))
 }
 
 // Joins two registers into a third buffer.
@@ -182,10 +144,7 @@ pub extern "C" fn pension_join(
     ensures { (result ≡ written_for_c (join_step (lent first.now first_used) (lent second.now second_used) target.old).answer) × (target.new ≡ (join_step (lent first.now first_used) (lent second.now second_used) target.old).state) }
 {
     let written = joining::join(first, first_used, second, second_used, target);
-    PensionWritten {
-        refusal: written.refusal as u32,
-        used: written.used,
-    }
+    PensionWritten::from(written)
 }
 
 // Commutes the small pension of a scheme in payment to a former officer of an age, and the survivor's pension with it.
