@@ -1,6 +1,7 @@
 // Fills a register of 65,536 bytes with one case and prints what filing, the check and the finds then answer.
 #![tactic(auto)]
 
+use refusals::{Refusal, number_of};
 use std::io;
 
 const REGISTER_LENGTH: usize = 65536;
@@ -8,51 +9,57 @@ const REGISTER_LENGTH: usize = 65536;
 // The number of the first filed line.
 const FIRST_NUMBER: u32 = 1;
 
-// How many lines were filed, the used length then, and the refusal that ended it.
+// How many lines were filed, the used length then, and the refusal that ended it, if one did.
 #[derive(Clone, Copy)]
 struct Filling {
-    pub lines: u64,
-    pub used: usize,
-    pub refusal: u8,
+    lines: u64,
+    used: usize,
+    end: Result<(), Refusal>,
 }
 
 // Files a case again and again until it is refused.
 fn fill(register: &mut [u8], line: &[u8]) -> Filling {
     let mut used = 0;
     for lines in 0..1000 {
-        let filed = register::file(register, used, FIRST_NUMBER, line);
-        let refusal = filed.refusal;
-        if refusal != 0 {
-            return Filling {
-                lines,
-                used,
-                refusal,
-            };
+        match register::file(register, used, FIRST_NUMBER, line) {
+            Ok(filed) => used = filed,
+            Err(refusal) => {
+                return Filling {
+                    lines,
+                    used,
+                    end: Err(refusal),
+                };
+            }
         }
-        used = filed.used;
     }
     Filling {
         lines: 1000,
         used,
-        refusal: 0,
+        end: Ok(()),
     }
 }
 
 // What filing a line answers, whose register stays as it is.
 fn refused(rt: &impl Print, register: &mut [u8], used: usize, line: &[u8]) -> io::Result<()> {
     let filed = register::file(register, used, FIRST_NUMBER, line);
-    println!(rt; "{}", filed.refusal)
+    println!(rt; "{}", number_of(&filed))
 }
 
 fn checked(rt: &impl Print, register: &[u8], used: usize) -> io::Result<()> {
-    let found = register::check(register, used);
-    println!(rt; "{} at offset {}", found.refusal, found.offset)
+    match register::check(register, used) {
+        Ok(()) => println!(rt; "0 at offset 0"),
+        Err(fault) => println!(rt;
+            "{} at offset {}",
+            Refusal::from(fault).number(),
+            fault.offset
+        ),
+    }
 }
 
 fn found_number(rt: &impl Print, register: &[u8], used: usize, quote: u32) -> io::Result<()> {
     rt.write_all(register::find_number(register, used, quote))?;
     let found = register::locate_number(register, used, quote);
-    println!(rt; "{}", found.refusal)
+    println!(rt; "{}", number_of(&found))
 }
 
 fn found_member(rt: &impl Print, register: &[u8], used: usize, member: u32) -> io::Result<()> {
@@ -60,7 +67,8 @@ fn found_member(rt: &impl Print, register: &[u8], used: usize, member: u32) -> i
     let found = register::locate_member(register, used, member);
     println!(rt;
         "{}, lines compared: {}",
-        found.located.refusal, found.compared
+        number_of(&found.line),
+        found.compared
     )
 }
 
@@ -71,7 +79,8 @@ fn main(rt: HostRuntime) -> io::Result<()> {
     let used = filled.used;
     println!(rt;
         "{} lines filed, then refusal {}",
-        filled.lines, filled.refusal
+        filled.lines,
+        number_of(&filled.end)
     )?;
     print!(rt; "A bad character still gives refusal ")?;
     refused(&rt, &mut register, used, b"x")?;
