@@ -11,7 +11,7 @@ use native.Mathlib.Omega.{arith}
 use lib.ListN.{length, get_or, drop}
 use lib.Seq.{drop_at}
 use borrow.Author.Tests.{eq-eqb, ne_eqb}
-use Rattle.register.specs.declared.answers.Checked.{Checked}
+use Rattle.register.specs.Answers.{Checked}
 use Rattle.register.specs.Line.{number_in}
 use Rattle.register.specs.Layout.{Register, lent, line_layout, line_length, used_lines, bytes_of}
 use Rattle.register.specs.Check.{check_of, check_lines}
@@ -22,7 +22,7 @@ use Rattle.register.proofs.CheckLaws.{Good, any_right}
 use Rattle.register.proofs.FindLaws.{found_at}
 use Rattle.register.proofs.LedgerLaws.{Held}
 use Rattle.register.proofs.Shown.{shown, shown_lines, shown_check}
-use Rattle.joining.specs.declared.Written.{Written}
+use Rattle.joining.specs.Answers.{Written}
 use Rattle.joining.specs.Join.{holds, line_of, lower_first, higher_next, joined_line, joined_lines, has_unlike, in_neither, joined}
 use Rattle.joining.specs.Claims.{LineInOne, refusal_given, JoinClaim}
 use Rattle.joining.proofs.JoinLaws.{spanned, joined_count, joined_at, line_first, line_second, in_one, alike, faultless_each, granted, Joins, joins}

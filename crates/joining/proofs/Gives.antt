@@ -9,7 +9,7 @@ use native.Mathlib.Omega.{arith}
 use lib.ListN.{length, take, drop}
 use lib.Seq.{drop-length}
 use Rattle.calendar.proofs.TestsLaws.{by_zero}
-use Rattle.register.specs.declared.answers.Checked.{Checked}
+use Rattle.register.specs.Answers.{Checked}
 use Rattle.register.specs.Layout.{Register, lent, used_lines, bytes_of}
 use Rattle.register.specs.Check.{check_lines_by, check_of}
 use Rattle.register.specs.Ledger.{empty_ledger}

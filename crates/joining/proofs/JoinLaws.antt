@@ -15,7 +15,7 @@ use Rattle.split.proofs.ListLoop.{map_at}
 use Rattle.register.specs.Layout.{Register, used_lines, bytes_of}
 use Rattle.register.specs.Check.{check_of}
 use Rattle.register.specs.Steps.{Step}
-use Rattle.joining.specs.declared.Written.{Written}
+use Rattle.joining.specs.Answers.{Written}
 use Rattle.joining.specs.Join.{holds, line_of, lower_first, higher_next, numbers_from, joined_numbers, joined_line, joined_lines, same_characters, has_unlike, in_neither, not_joinable, is_too_short, not_valid, bad_register, cannot_join, no_room, join_refusal, joined_text, written_step, refused_step, join_step}
 use Rattle.joining.specs.Parts.{write_step}
 

@@ -18,7 +18,7 @@ use Rattle.register.specs.Find.{has_number}
 use Rattle.register.specs.Scan.{SoundLines}
 use Rattle.register.proofs.LayoutLaws.{cut_count}
 use Rattle.register.proofs.CheckLaws.{Good, number_inside, next_right, fault_number, fault_late, sound_good, sound_number}
-use Rattle.register.proofs.FindLaws.{last_line, number_before, number_behind}
+use Rattle.register.proofs.FindLaws.{last_line, number_before, number_found, number_past}
 use Rattle.register.proofs.FindLoop.{first_line_number}
 use Rattle.joining.specs.Join.{holds, line_of, first_number}
 
@@ -93,14 +93,14 @@ module _ (ls : List (List ℕ)) (sound : SoundLines ls) where
     pub line_there : (number : ℕ) → first ≤ number → number < first + length ls
         → (holds ls number ≡ true) × (line_of ls number ≡ get_or ls (number - first) [])
     line_there number low high =
-        let found = (number_behind line_layout number_inside ls sound first number begins low).found (omega arith) in
-        (found.0, (last_line (has_number number) ls found.0).1 ∙ ap (λ (n : ℕ). get_or ls n []) found.1)
+        let found = number_found line_layout number_inside ls sound first number begins (number - first) (omega arith) (omega arith) in
+        (found.1, (last_line (has_number number) ls found.1).1 ∙ ap (λ (n : ℕ). get_or ls n []) found.2)
 
     pub none_below : (number : ℕ) → number < first → holds ls number ≡ false
-    none_below number low = (number_before line_layout number_inside ls sound first number begins low (length ls) (omega arith)).absent (omega arith)
+    none_below number low = number_before line_layout number_inside ls sound first number begins low
 
     pub none_above : (number : ℕ) → first + length ls ≤ number → holds ls number ≡ false
-    none_above number high = (number_behind line_layout number_inside ls sound first number begins (omega arith)).absent (omega arith)
+    none_above number high = number_past line_layout number_inside ls sound first number begins (number - first) (omega arith) (omega arith)
 
     pub held_within : (number : ℕ) → holds ls number ≡ true → (first ≤ number) × (number < first + length ls)
     held_within number e = (

@@ -11,7 +11,7 @@ use lib.Seq.{take_all}
 use borrow.Author.Tests.{not-false}
 use Rattle.register.specs.Layout.{lent, line_layout, line_length, used_lines, bytes_of}
 use Rattle.register.specs.Steps.{Step}
-use Rattle.joining.specs.declared.Written.{Written}
+use Rattle.joining.specs.Answers.{Written}
 use Rattle.joining.specs.Join.{same_characters, not_joinable, cannot_join, refused_answer, join_step}
 use Rattle.joining.specs.Parts.{Ordered, lines_before, write_step}
 use Rattle.joining.proofs.JoinLaws.{equal_same, same_equal, apart, written}

@@ -8,7 +8,7 @@ use lib.Seq.{take-append_seam, drop-append_seam, drop-drop}
 use borrow.Rule.Slice.PartMut.{put_mid, post_of}
 use borrow.Author.Tests.{lt-ltb, le-ltb, eq-eqb, ne_eqb}
 use Rattle.register.specs.Steps.{Step}
-use Rattle.joining.specs.declared.Written.{Written}
+use Rattle.joining.specs.Answers.{Written}
 use Rattle.joining.specs.Join.{first_number, no_room, refused_answer}
 use Rattle.joining.specs.Parts.{lines_before, write_step}
 

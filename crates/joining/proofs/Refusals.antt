@@ -17,7 +17,7 @@ use Rattle.register.specs.Line.{number_in}
 use Rattle.register.specs.Layout.{Register, used_lines, bytes_of}
 use Rattle.register.specs.Check.{check_of}
 use Rattle.register.specs.Steps.{Step}
-use Rattle.joining.specs.declared.Written.{Written}
+use Rattle.joining.specs.Answers.{Written}
 use Rattle.joining.specs.Join.{holds, first_number, lower_first, higher_next, joined_lines, has_unlike, in_neither, not_joinable, join_step, joined}
 use Rattle.joining.specs.Claims.{LineIn, LineInOne, refusal_given, RefusalClaim}
 use Rattle.joining.proofs.JoinLaws.{spanned, lacking, differing, no_fault, each_faultless, some_faulty, step_refused, first_unsound, second_unsound, apart, too_short, granted, answered, joins}

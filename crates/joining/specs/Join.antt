@@ -8,7 +8,7 @@ use Rattle.register.specs.Check.{next_number, check_of}
 use Rattle.register.specs.Find.{last_where, has_number}
 use Rattle.register.specs.File.{over}
 use Rattle.register.specs.Steps.{Step}
-use Rattle.joining.specs.declared.Written.{Written}
+use Rattle.joining.specs.Answers.{Written}
 
 -- some line has a number, and the line that has it; empty where none does
 abbrev pub holds : List (List ℕ) → ℕ → Bool

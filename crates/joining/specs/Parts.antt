@@ -4,7 +4,7 @@ use Rattle.std.specs.Prelude.{ℕ, ◌-◌, ◌≤◌, cond, List, ◌≡◌, lt
 use Rattle.register.specs.Layout.{Register, used_lines}
 use Rattle.register.specs.Check.{check_of}
 use Rattle.register.specs.Steps.{Step}
-use Rattle.joining.specs.declared.Written.{Written}
+use Rattle.joining.specs.Answers.{Written}
 use Rattle.joining.specs.Join.{first_number, no_room, written_step, refused_step}
 
 -- two sound registers, of which the second does not begin before the first; one without lines begins before any

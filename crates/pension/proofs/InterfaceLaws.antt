@@ -8,14 +8,20 @@ use native.Mathlib.Omega.{arith}
 use lib.ListN.{length, get_or, take, drop, set, length-set}
 use lib.Seq.{take_all}
 use Rattle.split.proofs.ListLoop.{map_more, take_next}
-use Rattle.register.specs.declared.answers.Located.{Located}
-use Rattle.register.specs.declared.answers.LocatedMember.{LocatedMember}
+use Rattle.std.specs.Prelude.{Result, Ok, Err}
+use Rattle.std.specs.Result.{result_unwrap_or}
+use Rattle.refusals.specs.declared.Refusal.{Refusal}
+use Rattle.refusals.specs.Numbers.{refusal_number}
+use Rattle.register.specs.Answers.{Located, LocatedMember, filed_as}
 use Rattle.register.specs.Layout.{Register, line_layout}
 use Rattle.register.specs.Find.{has_member, find_line, locate, locate_member}
 use Rattle.register.proofs.FindLaws.{located_within, member_within}
+use Rattle.joining.specs.Answers.{written_as}
+use Rattle.pension.specs.declared.answers.PensionFiled.{PensionFiled}
+use Rattle.pension.specs.declared.answers.PensionWritten.{PensionWritten}
 use Rattle.pension.specs.declared.answers.PensionFound.{PensionFound}
 use Rattle.pension.specs.declared.answers.PensionFoundMember.{PensionFoundMember}
-use Rattle.pension.specs.Interface.{found_for_c, found_member_for_c}
+use Rattle.pension.specs.Interface.{filed_for_c, found_for_c, found_member_for_c, written_for_c}
 
 -- of four elements the first i have their figure in an array
 pub record Filled {A : Type 0} (f : A → ℕ) (xs : List A) (figures : List ℕ) (i : ℕ) : Type 0 where
@@ -35,6 +41,19 @@ module _ {A : Type 0} {f : A → ℕ} {xs : List A} {figures : List ℕ} {i : �
   pub filled_all : i ≤ 4 → 4 ≤ i → figures ≡ map f xs
   filled_all h g =
       sym (take_all i figures (omega (arith, filled.size))) ∙ filled.part ∙ ap (map f) (take_all i xs (omega arith))
+
+-- a used length and the refusal in its place, as C has them side by side
+pub filed_given : (filed : Result ℕ Refusal) (refusal used : ℕ) → refusal ≡ refusal_number filed → used ≡ result_unwrap_or filed 0
+    → ◌≡◌ {A = PensionFiled} (record { refusal = refusal; used = used }) (filed_for_c (filed_as filed))
+unfolding filed_for_c
+filed_given (Ok n) refusal used e f = λ i. record { refusal = e i; used = f i }
+filed_given (Err r) refusal used e f = λ i. record { refusal = e i; used = f i }
+
+pub written_given : (written : Result ℕ Refusal) (refusal used : ℕ) → refusal ≡ refusal_number written → used ≡ result_unwrap_or written 0
+    → ◌≡◌ {A = PensionWritten} (record { refusal = refusal; used = used }) (written_for_c (written_as written))
+unfolding written_for_c
+written_given (Ok n) refusal used e f = λ i. record { refusal = e i; used = f i }
+written_given (Err r) refusal used e f = λ i. record { refusal = e i; used = f i }
 
 -- where a line is found is where its bytes are
 pub found_bytes : (f : List ℕ → Bool) (r : Register) (at : Located) (found : PensionFound) → at ≡ locate f r → found ≡ found_for_c at

@@ -1,13 +1,10 @@
 -- The answers of the engine as the C interface gives them: the same numbers, field by field. Assumes nothing.
 use Rattle.std.specs.Prelude.{ℕ, List, map}
 use Rattle.split.specs.Answers.{Quote}
-use Rattle.register.specs.declared.answers.Checked.{Checked}
-use Rattle.register.specs.declared.answers.Filed.{Filed}
-use Rattle.register.specs.declared.answers.Located.{Located}
-use Rattle.register.specs.declared.answers.LocatedMember.{LocatedMember}
+use Rattle.register.specs.Answers.{Checked, Filed, Located, LocatedMember}
 use Rattle.register.specs.Layout.{Register}
 use Rattle.register.specs.Text.{FiledText}
-use Rattle.joining.specs.declared.Written.{Written}
+use Rattle.joining.specs.Answers.{Written}
 use Rattle.trivial_commutation.specs.declared.Commuted.{Commuted}
 use Rattle.pension.specs.declared.answers.PensionQuote.{PensionQuote}
 use Rattle.pension.specs.declared.answers.PensionChecked.{PensionChecked}

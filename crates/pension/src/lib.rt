@@ -3,11 +3,11 @@
 #![tactic(auto)]
 
 mod answers;
+mod conversions;
 
 ghost use Rattle.std.specs.Prelude.{◌≡◌, length, take, drop};
-ghost use Rattle.refusals.specs.Numbers.{number};
 ghost use Rattle.calendar.specs.Calendar.{date_fault};
-ghost use Rattle.split.specs.Quote.{as_quote, refused_quote, answered, quote_of};
+ghost use Rattle.split.specs.Quote.{quote_of};
 ghost use Rattle.register.specs.Check.{check_of};
 ghost use Rattle.register.specs.Find.{has_number, has_member, find_line, locate, locate_member};
 ghost use Rattle.register.specs.Layout.{lent};
@@ -21,70 +21,14 @@ use answers::{
     PensionChecked, PensionCommuted, PensionFiled, PensionFiledLines, PensionFound,
     PensionFoundMember, PensionQuote, PensionWritten,
 };
-use refusals::Refusal;
-use register::answers::{Filed, Located, LocatedMember};
-use split::answers::Granted;
 use trivial_commutation::YearlyAmount;
-
-// The figures of a grant's four shares side by side, in the width that C has them.
-fn granted_for_c(granted: Granted) -> PensionQuote
-    requires { length granted.shares ≡ 4 }
-    ensures { result ≡ quote_for_c (as_quote granted) }
-{
-    let shares = granted.shares;
-    let mut lump = [0u64; 4];
-    let mut remaining = [0u64; 4];
-    let mut second = [0u64; 4];
-    let mut i = 0;
-    while i < 4 {
-        let share = shares[i];
-        lump[i] = share.lump.0 as u64;
-        remaining[i] = share.remaining.0 as u64;
-        second[i] = share.second.0 as u64;
-        i += 1;
-    }
-    PensionQuote {
-        refusal: 0,
-        member: granted.member,
-        total: granted.total.0 as u64,
-        lump,
-        remaining,
-        second,
-    }
-}
-
-// A refusal by its number, with zero figures.
-fn refused_for_c(refusal: Refusal) -> PensionQuote
-    ensures { result ≡ quote_for_c (refused_quote (number refusal)) }
-{
-    PensionQuote {
-        refusal: refusal.number() as u32,
-        member: 0,
-        total: 0,
-        lump: [0; 4],
-        remaining: [0; 4],
-        second: [0; 4],
-    }
-}
-
-impl From<Result<Granted, Refusal>> for PensionQuote {
-    ghost from_gives = { λ answer quote. quote ≡ quote_for_c (answered answer) };
-
-    fn from(answer: Result<Granted, Refusal>) -> PensionQuote {
-        match answer {
-            Ok(granted) => granted_for_c(granted),
-            Err(refusal) => refused_for_c(refusal),
-        }
-    }
-}
 
 // The quote of a case line.
 #[unsafe(no_mangle)]
 pub extern "C" fn pension_quote(line: &[u8]) -> PensionQuote
     ensures { result ≡ quote_for_c (quote_of line.now) }
 {
-    let answer = split::quote(line);
-    PensionQuote::from(answer)
+    PensionQuote::from(split::quote(line))
 }
 
 // The check of a register.
@@ -92,20 +36,7 @@ pub extern "C" fn pension_quote(line: &[u8]) -> PensionQuote
 pub extern "C" fn pension_check(register: &[u8], used: usize) -> PensionChecked
     ensures { result ≡ checked_for_c (check_of (lent register.now used)) }
 {
-    let checked = register::check(register, used);
-    PensionChecked {
-        refusal: checked.refusal as u32,
-        offset: checked.offset,
-    }
-}
-
-fn filed_for_c(filed: Filed) -> PensionFiled
-    ensures { result ≡ filed_for_c filed }
-{
-    PensionFiled {
-        refusal: filed.refusal as u32,
-        used: filed.used,
-    }
+    PensionChecked::from(register::check(register, used))
 }
 
 // Files a case line; in an empty register it gets the first number, where 0 stands for the default.
@@ -118,8 +49,7 @@ pub extern "C" fn pension_file(
 ) -> PensionFiled
     ensures { (result ≡ filed_for_c (file_step (lent register.old used) (filing first_number line.now)).answer) × (register.new ≡ (file_step (lent register.old used) (filing first_number line.now)).state.bytes) }
 {
-    let filed = register::file(register, used, first_number, line);
-    filed_for_c(filed)
+    PensionFiled::from(register::file(register, used, first_number, line))
 }
 
 // Files the lines of a text, each with the same first number.
@@ -153,35 +83,12 @@ pub extern "C" fn pension_file_all(
     register::file_all(register, first_number, lines, refusals)
 }
 
-fn found_for_c(located: Located) -> PensionFound
-    ensures { result ≡ found_for_c located }
-{
-    PensionFound {
-        refusal: located.refusal as u32,
-        offset: located.offset,
-        length: located.length,
-    }
-}
-
 // Where the line with a number is: the same bytes that find_number hands back.
 #[unsafe(no_mangle)]
 pub extern "C" fn pension_find_number(register: &[u8], used: usize, number: u32) -> PensionFound
     ensures { (result ≡ found_for_c (locate (has_number number) (lent register.now used))) × (take result.length (drop result.offset register.now) ≡ find_line (has_number number) (lent register.now used)) }
 {
-    let located = register::locate_number(register, used, number);
-    found_for_c(located)
-}
-
-fn found_member_for_c(found: LocatedMember) -> PensionFoundMember
-    ensures { result ≡ found_member_for_c found }
-{
-    let line = found_for_c(found.located);
-    PensionFoundMember {
-        refusal: line.refusal,
-        offset: line.offset,
-        length: line.length,
-        compared: found.compared,
-    }
+    PensionFound::from(register::locate_number(register, used, number))
 }
 
 // Where a member's newest line is: the same bytes that find_member hands back; and how many lines were compared.
@@ -193,8 +100,7 @@ pub extern "C" fn pension_find_member(
 ) -> PensionFoundMember
     ensures { (result ≡ found_member_for_c (locate_member member (lent register.now used))) × (take result.length (drop result.offset register.now) ≡ find_line (has_member member) (lent register.now used)) }
 {
-    let found = register::locate_member(register, used, member);
-    found_member_for_c(found)
+    PensionFoundMember::from(register::locate_member(register, used, member))
 }
 
 // Joins two registers into a third buffer.
@@ -209,10 +115,7 @@ pub extern "C" fn pension_join(
     ensures { (result ≡ written_for_c (join_step (lent first.now first_used) (lent second.now second_used) target.old).answer) × (target.new ≡ (join_step (lent first.now first_used) (lent second.now second_used) target.old).state) }
 {
     let written = joining::join(first, first_used, second, second_used, target);
-    PensionWritten {
-        refusal: written.refusal as u32,
-        used: written.used,
-    }
+    PensionWritten::from(written)
 }
 
 // Commutes the small pension of a scheme in payment to a former officer of an age, and the survivor's pension with it.

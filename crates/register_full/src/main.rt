@@ -1,6 +1,7 @@
 // Fills a register of 65,536 bytes with one case and prints what filing, the check and the finds then answer.
 #![tactic(auto)]
 
+use refusals::{Refusal, number_of};
 use std::io;
 
 const REGISTER_LENGTH: usize = 65536;
@@ -20,17 +21,13 @@ struct Register {
 
 impl Register {
     // Files a case. Refused, it leaves the register as it is and tells the refusal.
-    fn file(&mut self, line: &[u8]) -> Result<(), u8> {
-        let filed = register::file(&mut self.bytes, self.used, FIRST_NUMBER, line);
-        if filed.refusal != 0 {
-            return Err(filed.refusal);
-        }
-        self.used = filed.used;
+    fn file(&mut self, line: &[u8]) -> Result<(), Refusal> {
+        self.used = register::file(&mut self.bytes, self.used, FIRST_NUMBER, line)?;
         Ok(())
     }
 
     // Files a case again and again until it is refused: how many lines were filed, and the refusal.
-    fn fill(&mut self, line: &[u8]) -> Option<(u64, u8)> {
+    fn fill(&mut self, line: &[u8]) -> Option<(u64, Refusal)> {
         for lines in 0..FILINGS {
             if let Err(refusal) = self.file(line) {
                 return Some((lines, refusal));
@@ -42,7 +39,7 @@ impl Register {
     fn say_number(&self, rt: &impl Print, quote: u32) -> io::Result<()> {
         rt.write_all(register::find_number(&self.bytes, self.used, quote))?;
         let found = register::locate_number(&self.bytes, self.used, quote);
-        println!(rt; "{}", found.refusal)
+        println!(rt; "{}", number_of(&found))
     }
 
     fn say_member(&self, rt: &impl Print, member: u32) -> io::Result<()> {
@@ -50,22 +47,26 @@ impl Register {
         let found = register::locate_member(&self.bytes, self.used, member);
         println!(rt;
             "{}, lines compared: {}",
-            found.located.refusal, found.compared
+            number_of(&found.line),
+            found.compared
         )
     }
 }
 
 // What filing a case answered.
-fn say_filed(rt: &impl Print, filed: Result<(), u8>) -> io::Result<()> {
-    match filed {
-        Ok(()) => println!(rt; "none"),
-        Err(refusal) => println!(rt; "{refusal}"),
-    }
+fn say_filed(rt: &impl Print, filed: Result<(), Refusal>) -> io::Result<()> {
+    println!(rt; "{}", number_of(&filed))
 }
 
 fn say_checked(rt: &impl Print, register: &[u8], used: usize) -> io::Result<()> {
-    let found = register::check(register, used);
-    println!(rt; "{} at offset {}", found.refusal, found.offset)
+    match register::check(register, used) {
+        Ok(()) => println!(rt; "0 at offset 0"),
+        Err(fault) => println!(rt;
+            "{} at offset {}",
+            Refusal::from(fault).number(),
+            fault.offset
+        ),
+    }
 }
 
 fn main(rt: HostRuntime) -> io::Result<()> {
@@ -75,7 +76,10 @@ fn main(rt: HostRuntime) -> io::Result<()> {
     };
     let line = b"0000000107B2060F07E707010101002DC6C007C9060107E70701000000000000000000";
     match register.fill(line) {
-        Some((lines, refusal)) => println!(rt; "{lines} lines filed, then refusal {refusal}")?,
+        Some((lines, refusal)) => println!(rt;
+            "{lines} lines filed, then refusal {}",
+            refusal.number()
+        )?,
         None => println!(rt; "{FILINGS} lines filed, and no refusal")?,
     }
     print!(rt; "A bad character still gives refusal ")?;

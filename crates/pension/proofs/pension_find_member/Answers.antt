@@ -3,4 +3,4 @@ use Rattle.pension.proofs.InterfaceLaws.{member_bytes}
 use Rattle.pension.proofs.pension_find_member.Goals as goal
 
 pub returns : goal.returns
-returns c = member_bytes _ _ _ _ c.locate_member-found.ensures c.found_member_for_c.ensures
+returns c = member_bytes _ _ _ _ c.locate_member.ensures c.from.ensures

@@ -3,4 +3,4 @@ use Rattle.pension.proofs.InterfaceLaws.{found_bytes}
 use Rattle.pension.proofs.pension_find_number.Goals as goal
 
 pub returns : goal.returns
-returns c = found_bytes _ _ _ _ c.locate_number-located.ensures c.found_for_c.ensures
+returns c = found_bytes _ _ _ _ c.locate_number.ensures c.from.ensures

@@ -1,7 +1,0 @@
--- `found_member_for_c` is the definition `found_member_for_c`: the line as `found_for_c` gives it, and the count.
-use Rattle.pension.specs.Interface.{found_for_c, found_member_for_c}
-use Rattle.pension.proofs.found_member_for_c.Goals as goal
-
-pub returns : goal.returns
-unfolding found_for_c found_member_for_c
-returns c = rw c.found_for_c-line.ensures
