@@ -5,7 +5,8 @@ use mathlib.Core.Path.{◌≡◌, refl, sym, ◌∙◌, ap₂}
 use mathlib.Core.Bool.{Bool, true, false, cond, ◌&&◌, true≢false}
 use mathlib.Core.List.{List, [], ◌∷◌, ◌++◌}
 use native.Mathlib.Omega.{arith}
-use lib.Dec.{leb, eqb}
+use native.Mathlib.Decide.{dec_lt}
+use lib.Dec.{leb, ltb, eqb}
 use lib.ListN.{length, length-append}
 use borrow.Author.Tests.{lt-ltb, le-ltb, le-leb, leb-true, eq-eqb, eqb-true}
 use Rattle.calendar.specs.Tests.{lowest}
@@ -20,7 +21,7 @@ use Rattle.split.specs.Refusal.{total_stated, conditions, conditions_with}
 use Rattle.split.specs.Conditions.{lower, pension_conditions}
 use Rattle.split.specs.Working.{basis_of, AcceptedIn, Columns, FourPlaces, stored, Holds, WorkedOut}
 use Rattle.split.proofs.CaseLaws.{pensions_read}
-use Rattle.split.proofs.ConditionsLaws.{lower_zero, conditions_more, conditions_high}
+use Rattle.split.proofs.ConditionsLaws.{lower_none, lower_zero, conditions_more, conditions_high}
 use Rattle.split.proofs.WorkingLaws.{four_stored, holds_stored}
 
 -- the first i pensions were gone through
@@ -117,7 +118,7 @@ total_within : (h : Head) (ps : List Pension) (t a : ℕ) → t ≡ total_stated
 total_within h ps t a e x small = rw (← e, le-ltb 50000000 t small) x
 
 module _ {h : Head} {b : List ℕ} {n refused total : ℕ} {c : Columns} (g : Gone h b n (case_length n) refused total c) where
-  pub gone_above : (r : ℕ) → 50000000 < total → r ≡ lower refused 10 → WorkedOut h b n r c
+  gone_above : (r : ℕ) → 50000000 < total → r ≡ lower refused 10 → WorkedOut h b n r c
   gone_above r over made =
       record {
         pensions = g.pensions;
@@ -128,7 +129,7 @@ module _ {h : Head} {b : List ℕ} {n refused total : ℕ} {c : Columns} (g : Go
         figures = λ none. absurd (omega (arith, (lower_zero refused 10 (sym made ∙ none)).1));
       }
 
-  pub gone_within : total ≤ 50000000 → WorkedOut h b n refused c
+  gone_within : total ≤ 50000000 → WorkedOut h b n refused c
   gone_within small =
       record {
         pensions = g.pensions;
@@ -138,3 +139,12 @@ module _ {h : Head} {b : List ℕ} {n refused total : ℕ} {c : Columns} (g : Go
         four = g.four;
         figures = λ none. g.figures none small;
       }
+
+  pub gone_judged : (r : ℕ) → r ≡ lower refused (cond (ltb 50000000 total) 10 0) → WorkedOut h b n r c
+  gone_judged r made = elim (dec_lt 50000000 total) [
+    | yes over ↦ gone_above r over (rw (lt-ltb 50000000 total over) at made)
+    | no not ↦
+        let small : total ≤ 50000000 = omega arith in
+        let same : r ≡ refused = rw (le-ltb 50000000 total small) at made ∙ lower_none refused in
+        rw same (gone_within small)
+  ]

@@ -1,7 +1,7 @@
 -- `work_out` goes through the pensions one by one: the first `i` were read, judged and summed, and held where none is refused.
 use Prim.Native.Nat.{ℕ, ◌+◌, ◌*◌, ◌≤◌, ◌<◌, zero-le}
-use mathlib.Core.Bool.{Bool, ◌&&◌}
-use lib.Dec.{leb}
+use mathlib.Core.Bool.{Bool, cond, ◌&&◌}
+use lib.Dec.{leb, ltb}
 use mathlib.Core.Path.{◌≡◌, refl, ◌∙◌, ap}
 use native.Mathlib.Nat.{le_antisymm, lt_of_lt_of_le}
 use native.Mathlib.Numerals.{add-one-le}
@@ -14,12 +14,12 @@ use Rattle.refusals.specs.Numbers.{refusal_number}
 use Rattle.refusals.proofs.NumbersLaws.{given}
 use Rattle.split.specs.Case.{case_length}
 use Rattle.split.specs.Conditions.{lower, pension_conditions}
-use Rattle.split.specs.Working.{columns, WorkedOut}
+use Rattle.split.specs.Working.{columns}
 use Rattle.split.proofs.ListLoop.{fewer}
 use Rattle.split.proofs.WorkingLaws.{basis_age}
-use Rattle.split.proofs.PensionsLoop.{Gone, gone_none, one_worked, none_refused, gone_all, gone_above, gone_within}
+use Rattle.split.proofs.PensionsLoop.{Gone, gone_none, one_worked, none_refused, gone_all, gone_judged}
 use Rattle.split.proofs.pensions.work_out.Goals as goal
-use Rattle.split.proofs.pensions.work_out.Goals.{After-loop-i, After-lower_of-refused, After-is_ok, In-loop-i, Joined-stated-gt50000000, then-stated-gt50000000, else-stated-gt50000000}
+use Rattle.split.proofs.pensions.work_out.Goals.{After-loop-i, After-lower_of-refused, After-lower_of, After-is_ok, In-loop-i}
 
 pub head_refusal-refused-requires : goal.head_refusal-refused-requires
 head_refusal-refused-requires c = basis_age _ _ c.basis_of-basis.ensures
@@ -85,26 +85,25 @@ gone c =
 behind : (c : After-loop-i) → c.loop-i.next.at ≡ case_length c.args.n
 behind c = let l = c.loop-i in omega (arith, l.invariant.0, c.loop-i-test.false, l.invariant.1)
 
--- and the total counts, whether or not it is above the limit
-ended : (c : Joined-stated-gt50000000) → let l = c.loop-i in
-    WorkedOut c.args.head c.args.bytes.now c.args.n (refusal_number c.if-stated-gt50000000.refused)
-    (columns l.pensions l.tops l.bottoms l.caps l.prices l.increases)
-ended c = elim c.if-stated-gt50000000.branch [
-  | then-stated-gt50000000 w ↦
-      rw w.refused-is
-      (gone_above (gone ((goal.at.Joined-stated-gt50000000 c).After-loop-i)) _ (omega arith) w.lower_of-refused-then-stated-gt50000000.ensures)
-  | else-stated-gt50000000 w ↦
-      rw w.refused-is (gone_within (gone ((goal.at.Joined-stated-gt50000000 c).After-loop-i)) (omega arith))
-]
+-- the refusal of the case is the lower of theirs and of the total's
+summed : (c : After-lower_of)
+    → refusal_number c.lower_of.result ≡ lower (refusal_number c.loop-i.refused) (cond (ltb 50000000 c.loop-i.stated) 10 0)
+summed c = c.lower_of.ensures ∙ ap (λ (r : ℕ). lower (refusal_number c.loop-i.refused) r) c.total_refusal.ensures
 
-pub returns-in_err-refused : goal.returns-in_err-refused
-returns-in_err-refused c =
+pub returns-in_err-lower_of : goal.returns-in_err-lower_of
+returns-in_err-lower_of c =
     let p = err_from_is_err_and c.from_residual.result c.from_residual.ensures.1 in
-    rw (p.1, p.2) (rw c.in_err-refused.was at (ended ((goal.at.returns-in_err-refused c).Joined-stated-gt50000000)), tt)
+    rw (p.1, p.2) (
+      gone_judged (gone ((goal.at.returns-in_err-lower_of c).After-loop-i)) _
+          (rw c.in_err-lower_of.was at (summed ((goal.at.returns-in_err-lower_of c).After-lower_of))),
+      tt,
+    )
 
 pub returns : goal.returns
-returns c =
-    (rw c.in_ok-refused.was at (ended ((goal.at.returns c).Joined-stated-gt50000000)), behind ((goal.at.returns c).After-loop-i))
+returns c = (
+  gone_judged (gone ((goal.at.returns c).After-loop-i)) _ (rw c.in_ok-lower_of.was at (summed ((goal.at.returns c).After-lower_of))),
+  behind ((goal.at.returns c).After-loop-i),
+)
 
 pub overflow_add-i : goal.overflow_add-i
 overflow_add-i c = Fits-below tt (add-one-le (place ((goal.at.overflow_add-i c).In-loop-i)))
