@@ -2,10 +2,11 @@
 -- where nothing is refused so far its row is stored; after the last the total counts. Assumes nothing.
 use Prim.Native.Nat.{ℕ, ◌+◌, ◌≤◌, ◌<◌}
 use mathlib.Core.Path.{◌≡◌, refl, sym, ◌∙◌, ap₂}
-use mathlib.Core.Bool.{true, false, ◌&&◌, true≢false}
+use mathlib.Core.Bool.{true, false, cond, ◌&&◌, true≢false}
 use mathlib.Core.List.{List, [], ◌∷◌, ◌++◌, map}
 use native.Mathlib.Omega.{arith}
-use lib.Dec.{leb, eqb}
+use native.Mathlib.Decide.{dec_lt}
+use lib.Dec.{leb, ltb, eqb}
 use lib.ListN.{length, take, set, length-append}
 use lib.Seq.{take_all}
 use borrow.Author.Tests.{lt-ltb, le-ltb, le-leb, leb-true, eq-eqb, eqb-true}
@@ -23,7 +24,7 @@ use Rattle.split.specs.Conditions.{lower, pension_conditions}
 use Rattle.split.specs.Working.{basis_of, AcceptedIn, row_of, WorkedOut}
 use Rattle.split.proofs.CaseLaws.{pensions_read}
 use Rattle.split.proofs.ListLoop.{map_more}
-use Rattle.split.proofs.ConditionsLaws.{lower_zero, conditions_more, conditions_high}
+use Rattle.split.proofs.ConditionsLaws.{lower_none, lower_zero, conditions_more, conditions_high}
 
 -- the first i pensions were gone through
 pub record Gone (h : Head) (b : List ℕ) (i next refused total : ℕ) (rows : List PensionRow) : Type 0 where
@@ -109,7 +110,7 @@ module _ {h : Head} {b : List ℕ} {i n next refused total : ℕ} {rows : List P
   made_all : refused ≡ 0 → total ≤ 50000000 → rows ≡ map (row_of h) g.pensions
   made_all none small = sym (take_all i rows (omega arith)) ∙ g.made none small
 
-  pub gone_above : (r : ℕ) → 50000000 < total → r ≡ lower refused 10 → WorkedOut h b n r rows
+  gone_above : (r : ℕ) → 50000000 < total → r ≡ lower refused 10 → WorkedOut h b n r rows
   gone_above r over made =
       record {
         pensions = g.pensions;
@@ -119,7 +120,7 @@ module _ {h : Head} {b : List ℕ} {i n next refused total : ℕ} {rows : List P
         made = λ none. absurd (omega (arith, (lower_zero refused 10 (sym made ∙ none)).1));
       }
 
-  pub gone_within : total ≤ 50000000 → WorkedOut h b n refused rows
+  gone_within : total ≤ 50000000 → WorkedOut h b n refused rows
   gone_within small =
       record {
         pensions = g.pensions;
@@ -128,3 +129,12 @@ module _ {h : Head} {b : List ℕ} {i n next refused total : ℕ} {rows : List P
         judged = total_within h g.pensions total refused g.summed g.judged small;
         made = λ none. made_all none small;
       }
+
+  pub gone_judged : (r : ℕ) → r ≡ lower refused (cond (ltb 50000000 total) 10 0) → WorkedOut h b n r rows
+  gone_judged r made = elim (dec_lt 50000000 total) [
+    | yes over ↦ gone_above r over (rw (lt-ltb 50000000 total over) at made)
+    | no not ↦
+        let small : total ≤ 50000000 = omega arith in
+        let same : r ≡ refused = rw (le-ltb 50000000 total small) at made ∙ lower_none refused in
+        rw same (gone_within small)
+  ]

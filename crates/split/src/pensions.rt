@@ -1,5 +1,5 @@
 // The pensions of a case one after the other: each is read, held to the rules, and worked out.
-ghost use Rattle.std.specs.Prelude.{◌≡◌, ◌≤◌, length, IfOk};
+ghost use Rattle.std.specs.Prelude.{◌≡◌, ◌≤◌, cond, ltb, length, IfOk};
 ghost use Rattle.refusals.specs.Numbers.{refusal_number};
 ghost use Rattle.split.specs.Case.{head_length, case_length};
 ghost use Rattle.split.specs.Working.{WorkedOut};
@@ -9,6 +9,16 @@ use crate::frame::{Cursor, LONGEST};
 use crate::limits::PensionRow;
 use crate::{case, limits, refusal};
 use refusals::Refusal;
+
+// The refusal of pensions that state so much together.
+fn total_refusal(stated: u64) -> Result<(), Refusal>
+    ensures { refusal_number result ≡ cond (ltb 50000000 stated) 10 0 }
+{
+    if 50000000 < stated {
+        return Err(Refusal::PensionOutsideRange);
+    }
+    Ok(())
+}
 
 // Refusals 3 to 10 of a case with a pension for each row, the first of which is where the cursor stands; and where there is
 // none, the row of each pension and the cursor behind the last. One loop does it all, so that no pension is kept.
@@ -37,9 +47,6 @@ pub fn work_out(
         }
         next = read.next;
     }
-    if 50000000 < stated {
-        refused = refusal::lower_of(refused, Err(Refusal::PensionOutsideRange));
-    }
-    refused?;
+    refusal::lower_of(refused, total_refusal(stated))?;
     Ok(next)
 }

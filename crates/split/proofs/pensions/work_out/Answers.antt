@@ -11,9 +11,9 @@ use Rattle.split.specs.Case.{case_length}
 use Rattle.split.specs.Conditions.{lower, pension_conditions}
 use Rattle.split.specs.Working.{WorkedOut}
 use Rattle.split.proofs.WorkingLaws.{basis_age}
-use Rattle.split.proofs.PensionsLoop.{Gone, gone_none, one_stored, one_passed, none_refused, gone_above, gone_within}
+use Rattle.split.proofs.PensionsLoop.{Gone, gone_none, one_stored, one_passed, none_refused, gone_judged}
 use Rattle.split.proofs.pensions.work_out.Goals as goal
-use Rattle.split.proofs.pensions.work_out.Goals.{After-loop-row, After-lower_of-refused, After-is_ok, Joined-stated-gt50000000, then-is_ok-stated, else-is_ok-stated, then-stated-gt50000000, else-stated-gt50000000}
+use Rattle.split.proofs.pensions.work_out.Goals.{After-loop-row, After-lower_of-refused, After-is_ok, After-lower_of, then-is_ok-stated, else-is_ok-stated}
 
 pub head_refusal-refused-requires : goal.head_refusal-refused-requires
 head_refusal-refused-requires c = basis_age _ _ c.basis_of-basis.ensures
@@ -69,25 +69,18 @@ loop-row-preserved c =
 all : (c : After-loop-row) → c.loop-row.row-index ≡ length c.args.rows.now
 all c = omega (arith, c.loop-row.auto.row-index-end, c.loop-row-test.false)
 
--- and the total counts, whether or not it is above the limit
-ended : (c : Joined-stated-gt50000000)
-    → WorkedOut c.args.head c.args.bytes.now (length c.args.rows.now) (refusal_number c.if-stated-gt50000000.refused) c.loop-row.rows
+-- the refusal of the case is the lower of theirs and of the total's
+ended : (c : After-lower_of)
+    → WorkedOut c.args.head c.args.bytes.now (length c.args.rows.now) (refusal_number c.lower_of.result) c.loop-row.rows
 ended c =
     let l = c.loop-row in
-    let whole = all ((goal.at.Joined-stated-gt50000000 c).After-loop-row) in
-    elim c.if-stated-gt50000000.branch [
-      | then-stated-gt50000000 w ↦
-          rw w.refused-is
-          (gone_above l.invariant.gone l.invariant.start whole l.auto.rows _ (omega arith)
-          w.lower_of-refused-then-stated-gt50000000.ensures)
-      | else-stated-gt50000000 w ↦
-          rw w.refused-is (gone_within l.invariant.gone l.invariant.start whole l.auto.rows (omega arith))
-    ]
+    gone_judged l.invariant.gone l.invariant.start (all ((goal.at.After-lower_of c).After-loop-row)) l.auto.rows _
+    (c.lower_of.ensures ∙ ap (lower (refusal_number l.refused)) c.total_refusal.ensures)
 
-pub returns-in_err-refused-clause-worked : goal.returns-in_err-refused-clause-worked
-returns-in_err-refused-clause-worked c =
+pub returns-in_err-lower_of-clause-worked : goal.returns-in_err-lower_of-clause-worked
+returns-in_err-lower_of-clause-worked c =
     let p = err_from_is_err_and c.from_residual.result c.from_residual.ensures.1 in
-    rw (p.1, p.2) (rw c.in_err-refused.was at (ended ((goal.at.returns-in_err-refused-clause-worked c).Joined-stated-gt50000000)))
+    rw (p.1, p.2) (rw c.in_err-lower_of.was at (ended ((goal.at.returns-in_err-lower_of-clause-worked c).After-lower_of)))
 
 pub returns-clause-worked : goal.returns-clause-worked
-returns-clause-worked c = rw c.in_ok-refused.was at (ended ((goal.at.returns-clause-worked c).Joined-stated-gt50000000))
+returns-clause-worked c = rw c.in_ok-lower_of.was at (ended ((goal.at.returns-clause-worked c).After-lower_of))
