@@ -1,12 +1,9 @@
 -- `work_out` goes through the pensions one by one: those before were read, judged and summed, and have their rows where none is refused.
-use Rattle.std.proofs.Common.{ℕ, ◌≡◌, ◌+◌, ◌*◌, ◌<◌, ◌≤◌, false, ◌&&◌, eqb, leb, length, List, refl, sym, ◌∙◌, ap, arith}
-use Rattle.std.proofs.Math.Nat.{le_antisymm}
+use Rattle.std.proofs.Common.{◌≡◌, length, refl, ◌∙◌, ap, arith}
 use Rattle.calendar.specs.Tests.{lowest}
-use Rattle.split.specs.declared.limits.PensionRow.{PensionRow}
-use Rattle.split.specs.Case.{case_length}
 use Rattle.split.specs.Conditions.{lower, pension_conditions}
 use Rattle.split.proofs.WorkingLaws.{basis_age}
-use Rattle.split.proofs.PensionsLoop.{Gone, gone_none, one_stored, one_passed, none_refused, gone_above, gone_within}
+use Rattle.split.proofs.PensionsLoop.{gone_none, one_stored, one_passed, none_refused, gone_above, gone_within}
 use Rattle.split.proofs.pensions.work_out.Goals as goal
 use Rattle.split.proofs.pensions.work_out.Goals.{After-loop-row, After-lower_of-refused, then-refused-stated, else-refused-stated}
 
