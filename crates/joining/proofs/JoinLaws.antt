@@ -11,7 +11,7 @@ use lib.ListN.{length, get_or, length-map}
 use lib.Pointwise.{pointwise, bytes_decides}
 use borrow.Author.Tests.{ltb-true, ltb-false, lt-ltb, le-ltb, eqb-true, ne_eqb, not-false}
 use Rattle.calendar.proofs.TestsLaws.{or_left, or_right, not_true_false, by_test, by_zero, any_none, none_any, some_any}
-use Rattle.split.proofs.ListLoop.{map_at}
+use Rattle.std.proofs.lemmas.List.{get_or-map}
 use Rattle.register.specs.Layout.{Register, used_lines, bytes_of}
 use Rattle.register.specs.Check.{check_of}
 use Rattle.register.specs.Steps.{Step}
@@ -68,7 +68,7 @@ module _ (first second : List (List ℕ)) where
   pub joined_at : (k : ℕ) → k < spanned → get_or (joined_lines first second) k [] ≡ joined_line first second (lower_first first second + k)
   unfolding joined_lines joined_numbers
   joined_at k h =
-      map_at (joined_line first second) (numbers_from (lower_first first second) spanned) k 0 [] (omega (arith, numbers_count (lower_first first second) spanned))
+      get_or-map (joined_line first second) (numbers_from (lower_first first second) spanned) k 0 [] (omega (arith, numbers_count (lower_first first second) spanned))
       ∙ ap (joined_line first second) (numbers_at (lower_first first second) spanned k h)
 
   module _ (number : ℕ) where

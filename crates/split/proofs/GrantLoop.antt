@@ -21,7 +21,6 @@ use Rattle.split.specs.Working.{row_in, before_turn, benefits_in, pension_total}
 use Rattle.split.specs.Working.{no_row as no_pension_row}
 use Rattle.split.specs.Grant.{Row, no_row, goes_first, cheapest, row_at, most, served, turns}
 use Rattle.split.proofs.AllowanceLaws.{allowed_at_most}
-use Rattle.split.proofs.Rows.{cheapest_inside}
 use Rattle.split.proofs.Turns.{most_affordable}
 
 -- the place of the cheapest of the rows from i on, if one of them waits

@@ -26,7 +26,6 @@ use Rattle.split.specs.Working.{multiple_factor, increase_of, no_row, row_of, ro
 use Rattle.split.proofs.Prices.{ring}
 use Rattle.split.proofs.Turns.{grant_capped}
 use Rattle.split.proofs.LimitsLaws.{total_capped, caps_at}
-use Rattle.split.proofs.ListLoop.{map_at}
 use Rattle.split.proofs.Accepted.{AcceptedPension, Accepted, factor_range, increase_small, accepted_caps}
 use Rattle.split.proofs.BenefitsLaws.{cap_quarter}
 use Rattle.split.proofs.WorkingLaws.{worked_range, given_up_worked, pension_worked, multiple_worked, increase_worked}
@@ -77,12 +76,12 @@ module _ (allowance : Allowance) (h : Head) (ps : List Pension) (a : Accepted h 
 
   capped_at : (j : ℕ) → j < length ps → get_or xs j 0 ≤ (benefit_of h (get_or ps j no_pension)).cap.0
   capped_at j place =
-      rw (← map_at (benefit_of h) ps j no_pension no_benefit place) (caps_at (benefits_of h ps) xs within_caps j)
+      rw (← get_or-map (benefit_of h) ps j no_pension no_benefit place) (caps_at (benefits_of h ps) xs within_caps j)
 
   cap_small : (j : ℕ) → j < length ps → (benefit_of h (get_or ps j no_pension)).cap.0 ≤ 1000000000
   cap_small j place =
       let inside : j < length (benefits_of h ps) = rw (length-map) place in
-      rw (← map_at (benefit_of h) ps j no_pension no_benefit place)
+      rw (← get_or-map (benefit_of h) ps j no_pension no_benefit place)
       (omega (arith, sum_at (λ (b : Benefit). b.cap.0) (benefits_of h ps) no_benefit j inside, accepted_caps h ps a))
 
   range_at : (j : ℕ) → j < length ps

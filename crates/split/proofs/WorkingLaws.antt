@@ -1,10 +1,9 @@
 -- Laws of the figures as the code works them out: they are those of the definitions, since a multiple of a factor gives the
 -- same cap, price and pension given up; so the row of a pension, and the share made of it, are those of the pension. Assumes
 -- nothing.
-use Prim.Native.Nat.{ℕ, zero, suc, ◌*◌, ◌/◌, ◌≤◌, ◌<◌}
+use Prim.Native.Nat.{ℕ, ◌*◌, ◌/◌, ◌≤◌, ◌<◌}
 use mathlib.Core.Bool.{Bool, true, false, cond, ◌&&◌}
-use mathlib.Core.List.{List, [], ◌∷◌, ◌++◌}
-use mathlib.Core.Path.{◌≡◌, refl, sym, ◌∙◌, ap}
+use mathlib.Core.Path.{◌≡◌, refl, ◌∙◌, ap}
 use native.Mathlib.Nat.{mul-div_cancel, le_of_lt}
 use native.Mathlib.Omega.{arith}
 use lib.Dec.{ltb, eqb}
@@ -27,7 +26,7 @@ use Rattle.split.specs.declared.limits.PensionRow.{PensionRow}
 use Rattle.split.specs.Refusal.{age_of}
 use Rattle.split.specs.Benefits.{worked_pension, factor_of, worked_terms, limited_lump, cap_of, benefit_of}
 use Rattle.split.specs.Limits.{price_of}
-use Rattle.split.specs.Quote.{remaining_of, second_of, share_of, shares_of}
+use Rattle.split.specs.Quote.{remaining_of, second_of, share_of}
 use Rattle.split.specs.Working.{paid_thousandths, basis_of, multiple_factor, multiple_benefit, increase_of, row_of, before_turn, share_in}
 use Rattle.split.proofs.MultipleLaws.{quarter_multiple, price_multiple, given_up_multiple}
 

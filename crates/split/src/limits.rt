@@ -21,14 +21,14 @@ pub struct Benefit {
     pub cap: LumpPence,
 }
 
-// The row of a pension: the pension as the limits see it, the price of one penny of lump, the increase that gives a second
-// instalment, the lump it has been given, and whether its turn in the grant is still to come.
+// The row of a pension: the pension as the limits see it, the price of one penny of lump, the lump it has been given, the
+// increase that gives a second instalment, and whether its turn in the grant is still to come.
 #[derive(Clone, Copy)]
 pub struct PensionRow {
     pub benefit: Benefit,
     pub price: u64,
-    pub increase: u16,
     pub lump: LumpPence,
+    pub increase: u16,
     pub waiting: bool,
 }
 
@@ -184,8 +184,8 @@ pub fn row_of(basis: Basis, p: Pension) -> PensionRow
     PensionRow {
         benefit,
         price: price_of(benefit.factor),
-        increase: increase_of(p),
         lump: LumpPence(0),
+        increase: increase_of(p),
         waiting: true,
     }
 }
@@ -201,8 +201,8 @@ pub fn no_row() -> PensionRow
             cap: LumpPence(0),
         },
         price: 0,
-        increase: 0,
         lump: LumpPence(0),
+        increase: 0,
         waiting: false,
     }
 }

@@ -1,9 +1,8 @@
 -- `cheapest_place` is the definition `cheapest`, from the last row back: `best` is the place in the rows from `i` on.
-use Rattle.std.proofs.Common.{ℕ, ◌≡◌, ◌-◌, ◌≤◌, Bool, map, length, drop, refl, sym, ap, ◌∙◌, arith}
-use Rattle.std.proofs.Math.ListN.{get_or-map, length-map, drop_of_length-le}
-use Rattle.split.specs.declared.limits.PensionRow.{PensionRow}
-use Rattle.split.specs.Grant.{Row, row_at, cheapest, goes_first}
-use Rattle.split.specs.Working.{no_row, row_in}
+use Rattle.std.proofs.Common.{◌≡◌, ◌-◌, ◌≤◌, map, length, refl, sym, ◌∙◌}
+use Rattle.std.proofs.Math.ListN.{length-map}
+use Rattle.split.specs.Grant.{row_at}
+use Rattle.split.specs.Working.{row_in}
 use Rattle.split.proofs.GrantLoop.{Told, Found, price_at, waits_at, found_none, found_here, found_behind}
 use Rattle.split.proofs.grant.cheapest_place.Goals as goal
 use Rattle.split.proofs.grant.cheapest_place.Goals.{Joined-best, in-Some, in-None}

@@ -1,5 +1,5 @@
 -- `take_turns` takes the turns of the definition `turns`: those left from here give what all give from the start.
-use Rattle.std.proofs.Common.{ℕ, ◌≡◌, ◌-◌, ◌*◌, ◌/◌, ◌<◌, ◌≤◌, min, refl, sym, ◌∙◌, ap, arith, map, length, get_or, Fits}
+use Rattle.std.proofs.Common.{ℕ, ◌≡◌, ◌*◌, ◌/◌, ◌≤◌, min, refl, sym, ◌∙◌, ap, map, length, get_or}
 use Rattle.std.proofs.Math.ListN.{length-map}
 use Rattle.std.proofs.Math.Nat.{sub-eq-zero_of_le}
 use Rattle.std.proofs.Math.Seq.{map-set_same}

@@ -1,5 +1,5 @@
 -- `shares_of` stores the shares one by one: the first `i` are those of the first `i` rows.
-use Rattle.std.proofs.Common.{◌≡◌, ◌<◌, ◌≤◌, map, take, length, ◌∙◌, ap, set, arith}
+use Rattle.std.proofs.Common.{◌≡◌, map, take, length, ◌∙◌, arith}
 use Rattle.std.proofs.lemmas.List.{map_more, length-take-le}
 use Rattle.std.proofs.Math.ListN.{length-map}
 use Rattle.split.specs.Quote.{no_share}
