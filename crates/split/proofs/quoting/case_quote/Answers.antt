@@ -1,6 +1,6 @@
 -- `case_quote` is the definition `case_quote` of the pensions that were worked out and the amount that was read behind them: what
 -- each callee asks holds of an accepted case, and their promises compose.
-use Rattle.std.proofs.Common.{ℕ, ◌≡◌, map, sym, ◌∙◌, ap, subst, arith}
+use Rattle.std.proofs.Common.{ℕ, ◌≡◌, map, sym, ◌∙◌, ap, subst, arith, refl}
 use Rattle.std.proofs.lemmas.List.{length-take-le}
 use Rattle.std.proofs.lemmas.Result.{err_from_is_err_and}
 use Rattle.refusals.specs.Numbers.{number}
