@@ -183,7 +183,7 @@ fn allowances(rt: &impl Print) -> io::Result<()> {
 // The trivial commutation of a small pension in payment, with the survivor's pension.
 fn commutation(scheme: u32, age: u32, member: YearlyAmount, survivor: YearlyAmount) -> Pounds {
     let commuted = trivial_commutation::commute(scheme, age, member, survivor);
-    Pounds(commuted.lump.0)
+    Pounds(commuted.unwrap_or(LumpPence(0)).0)
 }
 
 fn small_pensions(rt: &impl Print) -> io::Result<()> {

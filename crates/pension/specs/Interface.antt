@@ -5,7 +5,7 @@ use Rattle.register.specs.Answers.{Checked, Filed, Located, LocatedMember}
 use Rattle.register.specs.Layout.{Register}
 use Rattle.register.specs.Text.{FiledText}
 use Rattle.joining.specs.Answers.{Written}
-use Rattle.trivial_commutation.specs.declared.Commuted.{Commuted}
+use Rattle.trivial_commutation.specs.Answers.{Commuted}
 use Rattle.pension.specs.declared.answers.PensionQuote.{PensionQuote}
 use Rattle.pension.specs.declared.answers.PensionChecked.{PensionChecked}
 use Rattle.pension.specs.declared.answers.PensionFiled.{PensionFiled}

@@ -2,12 +2,15 @@
 ghost use Rattle.std.specs.Prelude.{◌≡◌};
 ghost use Rattle.split.specs.Quote.{answered};
 ghost use Rattle.register.specs.Answers.{checked_as, filed_as, located_as, located_member_as};
+ghost use Rattle.trivial_commutation.specs.Answers.{commuted_as};
 ghost use Rattle.joining.specs.Answers.{written_as};
-ghost use Rattle.pension.specs.Interface.{quote_for_c, checked_for_c, filed_for_c, found_for_c, found_member_for_c, written_for_c};
+ghost use Rattle.pension.specs.Interface.{quote_for_c, checked_for_c, filed_for_c, found_for_c, found_member_for_c, commuted_for_c, written_for_c};
 
 use crate::answers::{
-    PensionChecked, PensionFiled, PensionFound, PensionFoundMember, PensionQuote, PensionWritten,
+    PensionChecked, PensionCommuted, PensionFiled, PensionFound, PensionFoundMember, PensionQuote,
+    PensionWritten,
 };
+use factors::money::LumpPence;
 use refusals::{Refusal, number_of};
 use register::answers::{Extent, Fault, FoundMember};
 use split::answers::Granted;
@@ -106,6 +109,24 @@ impl From<Result<usize, Refusal>> for PensionWritten {
         PensionWritten {
             refusal: number_of(&written) as u32,
             used: written.unwrap_or(0),
+        }
+    }
+}
+
+impl From<Result<LumpPence, Refusal>> for PensionCommuted {
+    ghost from_gives = { λ commuted given. given ≡ commuted_for_c (commuted_as commuted) };
+
+    #[tactic(auto, unfolding(crate::specs::Interface::commuted_for_c))]
+    fn from(commuted: Result<LumpPence, Refusal>) -> PensionCommuted {
+        match commuted {
+            Ok(lump) => PensionCommuted {
+                refusal: 0,
+                lump: lump.0 as u64,
+            },
+            Err(refusal) => PensionCommuted {
+                refusal: refusal.number() as u32,
+                lump: 0,
+            },
         }
     }
 }

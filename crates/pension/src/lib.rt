@@ -130,11 +130,7 @@ pub extern "C" fn pension_trivial_commutation(
 {
     let member = YearlyAmount(member_pension);
     let survivor = YearlyAmount(survivor_pension);
-    let commuted = trivial_commutation::commute(scheme, age, member, survivor);
-    PensionCommuted {
-        refusal: commuted.refusal as u32,
-        lump: commuted.lump.0 as u64,
-    }
+    PensionCommuted::from(trivial_commutation::commute(scheme, age, member, survivor))
 }
 
 // Which test the date of these numbers breaks first, or 0 for none.

@@ -3,7 +3,7 @@
 use Rattle.std.specs.Prelude.{ℕ, ◌+◌, ◌*◌, ◌/◌, ◌≤◌, ◌<◌, Bool, cond, not, ◌&&◌, ◌||◌, List, [], ◌∷◌, ◌≡◌, ◌⊎◌, leb, eqb, length, get_or}
 use Rattle.calendar.specs.Tests.{within}
 use Rattle.trivial_commutation.specs.declared.tables.Factors.{Factors}
-use Rattle.trivial_commutation.specs.declared.Commuted.{Commuted}
+use Rattle.trivial_commutation.specs.Answers.{Commuted}
 use Rattle.trivial_commutation.specs.Tables.{Row, row, small_pension_1987, small_pension_2006_and_2015}
 
 -- "member's pension times its factor plus survivor's pension times its factor, the sum then taken down to the penny"; "The factors

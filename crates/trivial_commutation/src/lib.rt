@@ -5,21 +5,16 @@
 mod tables;
 
 ghost use Rattle.std.specs.Prelude.{◌≡◌, ◌*◌, ◌≤◌};
+ghost use Rattle.trivial_commutation.specs.Answers.{commuted_as};
 ghost use Rattle.trivial_commutation.specs.TrivialCommutation.{lump_sum, refused, trivial_commutation};
 
 use factors::money::{LumpPence, YearlyPence};
+use refusals::Refusal;
 use tables::Factors;
 
 // Yearly money as the caller gives it, in pence and of any size, so that an amount that is too large is refused and never cut.
 #[derive(Clone, Copy, Debug, PartialEq, Eq)]
 pub struct YearlyAmount(pub u64);
-
-// Refusal 0 and the lump sum, or refusal 15 and none.
-#[derive(Clone, Copy, Debug, PartialEq, Eq)]
-pub struct Commuted {
-    pub refusal: u8,
-    pub lump: LumpPence,
-}
 
 // Whether an age, a scheme or a pension is outside its bounds or its list.
 #[tactic(auto, unfolding(crate::specs::TrivialCommutation::refused, crate::specs::TrivialCommutation::bad_age, crate::specs::TrivialCommutation::bad_scheme, crate::specs::TrivialCommutation::bad_pension))]
@@ -53,20 +48,19 @@ fn lump_sum(factors: Factors, member: YearlyPence, survivor: YearlyPence) -> Lum
 
 // Commutes the pension of a scheme (1987, 2006 or 2015) in payment to a former officer of an age in completed years, and the
 // survivor's pension with it.
-pub fn commute(scheme: u32, age: u32, member: YearlyAmount, survivor: YearlyAmount) -> Commuted
-    ensures { result ≡ trivial_commutation scheme age member.0 survivor.0 }
+pub fn commute(
+    scheme: u32,
+    age: u32,
+    member: YearlyAmount,
+    survivor: YearlyAmount,
+) -> Result<LumpPence, Refusal>
+    ensures { commuted_as result ≡ trivial_commutation scheme age member.0 survivor.0 }
 {
     if is_refused(scheme, age, member, survivor) {
-        return Commuted {
-            refusal: 15,
-            lump: LumpPence(0),
-        };
+        return Err(Refusal::CommutationOutsideRange);
     }
     let factors = tables::factors_of(scheme, age);
     let for_member = YearlyPence(member.0 as u32);
     let for_survivor = YearlyPence(survivor.0 as u32);
-    Commuted {
-        refusal: 0,
-        lump: lump_sum(factors, for_member, for_survivor),
-    }
+    Ok(lump_sum(factors, for_member, for_survivor))
 }

@@ -1,5 +1,5 @@
 -- The answer of a quote is the definition `quote_for_c`, by whether it is refused.
-use Rattle.std.proofs.Common.{arith, rules}
+use Rattle.std.proofs.Common.{arith}
 use Rattle.std.proofs.lemmas.Grind.{common_steps}
 use Rattle.split.specs.Quote.{refused_quote}
 use Rattle.pension.specs.Interface.{quote_for_c}
