@@ -11,14 +11,24 @@ ghost use Rattle.joining.specs.Parts.{Ordered, lines_before, write_step};
 use refusals::Refusal::{self, NotJoinable, TargetTooShort};
 use register::LINE_LENGTH;
 
-// The first number of a register, 0 where it has no lines.
-fn first_number(register: &[u8], used: usize) -> u32
-    ensures { result ≡ first_number (used_lines (lent register.now used)) }
-{
-    if used < LINE_LENGTH {
-        return 0;
+// A register as it is lent: its bytes, and how many of them are used.
+#[derive(Clone, Copy)]
+struct Lent<'a> {
+    bytes: &'a [u8],
+    used: usize,
+}
+
+impl<'a> Lent<'a> {
+    // The number of the first line. Where there is none it is 0, as the definition has it: so one comparison tells which of two
+    // registers begins first, and an empty one does.
+    fn first_number(self) -> u32
+        ensures { result ≡ first_number (used_lines (lent self.entry.bytes.now self.entry.used)) }
+    {
+        if self.used < LINE_LENGTH {
+            return 0;
+        }
+        split::number_at(self.bytes, 0)
     }
-    split::number_at(register, 0)
 }
 
 // Whether two parts differ in a character.
@@ -46,12 +56,12 @@ fn write_parts(first: &[u8], second: &[u8], target: &mut [u8]) -> Result<usize, 
 }
 
 // How many numbers a register begins behind another, 0 where the other has no lines.
-fn lines_before(low: &[u8], low_used: usize, high: &[u8], high_used: usize) -> usize
-    requires { Ordered (lent low.now low_used) (lent high.now high_used) }
-    ensures { result ≡ lines_before (used_lines (lent low.now low_used)) (used_lines (lent high.now high_used)) }
+fn lines_before(low: Lent<'_>, high: Lent<'_>) -> usize
+    requires { Ordered (lent low.bytes.now low.used) (lent high.bytes.now high.used) }
+    ensures { result ≡ lines_before (used_lines (lent low.entry.bytes.now low.entry.used)) (used_lines (lent high.entry.bytes.now high.entry.used)) }
 {
-    let low_first = first_number(low, low_used);
-    let high_first = first_number(high, high_used);
+    let low_first = low.first_number();
+    let high_first = high.first_number();
     if low_first == 0 {
         return 0;
     }
@@ -60,28 +70,29 @@ fn lines_before(low: &[u8], low_used: usize, high: &[u8], high_used: usize) -> u
 
 // Joins two sound registers of which the second does not begin before the first: the whole of the first, and behind it the lines
 // of the second whose numbers the first does not have.
-fn join_ordered(
-    low: &[u8],
-    low_used: usize,
-    high: &[u8],
-    high_used: usize,
-    target: &mut [u8],
-) -> Result<usize, Refusal>
-    requires { Ordered (lent low.now low_used) (lent high.now high_used) }
-    ensures { (written_as result ≡ (join_step (lent low.now low_used) (lent high.now high_used) target.old).answer) × (target.new ≡ (join_step (lent low.now low_used) (lent high.now high_used) target.old).state) }
+fn join_ordered(low: Lent<'_>, high: Lent<'_>, target: &mut [u8]) -> Result<usize, Refusal>
+    requires { Ordered (lent low.bytes.now low.used) (lent high.bytes.now high.used) }
+    ensures { (written_as result ≡ (join_step (lent low.entry.bytes.now low.entry.used) (lent high.entry.bytes.now high.entry.used) target.old).answer) × (target.new ≡ (join_step (lent low.entry.bytes.now low.entry.used) (lent high.entry.bytes.now high.entry.used) target.old).state) }
 {
-    let before = lines_before(low, low_used, high, high_used);
-    let lines = low_used / LINE_LENGTH;
+    let before = lines_before(low, high);
+    let lines = low.used / LINE_LENGTH;
     if lines < before {
         return Err(NotJoinable);
     }
-    let common_length = (lines - before).min(high_used / LINE_LENGTH) * LINE_LENGTH;
+    let common_length = (lines - before).min(high.used / LINE_LENGTH) * LINE_LENGTH;
     let common_at = before * LINE_LENGTH;
     let common_end = common_at + common_length;
-    if is_unlike(&low[common_at..common_end], &high[0..common_length]) {
+    if is_unlike(
+        &low.bytes[common_at..common_end],
+        &high.bytes[0..common_length],
+    ) {
         return Err(NotJoinable);
     }
-    write_parts(&low[0..low_used], &high[common_length..high_used], target)
+    write_parts(
+        &low.bytes[0..low.used],
+        &high.bytes[common_length..high.used],
+        target,
+    )
 }
 
 // Joins two registers into a third buffer: the used length of the result, which stands at the buffer's start; or that a register is
@@ -97,8 +108,16 @@ pub fn join(
 {
     register::check(first, first_used)?;
     register::check(second, second_used)?;
-    if first_number(second, second_used) < first_number(first, first_used) {
-        return join_ordered(second, second_used, first, first_used, target);
+    let one = Lent {
+        bytes: first,
+        used: first_used,
+    };
+    let other = Lent {
+        bytes: second,
+        used: second_used,
+    };
+    if other.first_number() < one.first_number() {
+        return join_ordered(other, one, target);
     }
-    join_ordered(first, first_used, second, second_used, target)
+    join_ordered(one, other, target)
 }

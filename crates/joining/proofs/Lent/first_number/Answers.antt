@@ -3,11 +3,11 @@ use mathlib.Core.Path.{sym, ◌∙◌}
 use borrow.Author.Rules.{rules}
 use Rattle.register.specs.Line.{text_length}
 use Rattle.joining.proofs.Numbers.{no_first, first_read}
-use Rattle.joining.proofs.first_number.Goals as goal
+use Rattle.joining.proofs.Lent.first_number.Goals as goal
 
-pub returns-then-used-lt-LINE_LENGTH : goal.returns-then-used-lt-LINE_LENGTH
+pub returns-then-self-lt-LINE_LENGTH : goal.returns-then-self-lt-LINE_LENGTH
 unfolding text_length
-returns-then-used-lt-LINE_LENGTH c = sym (no_first _ _ (search rules))
+returns-then-self-lt-LINE_LENGTH c = sym (no_first _ _ (search rules))
 
 pub returns : goal.returns
 unfolding text_length
