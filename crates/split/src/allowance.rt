@@ -5,7 +5,8 @@ ghost use Rattle.split.specs.Allowance.{allowance_of, allowed, after_lump};
 use calendar::Date;
 use factors::money::LumpPence;
 
-// The allowance of a case. What is left of it counts only where it applies.
+// The allowance of a case. What is left of it counts only where it applies. It is no `Option`, since definitions that are to
+// keep their text read both fields: `allowance_of`, `allowed`, `after_lump`, `KeepsAllowance` (`specs/Allowance.antt`).
 #[derive(Clone, Copy)]
 pub struct Allowance {
     pub applies: bool,
