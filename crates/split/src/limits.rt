@@ -136,8 +136,7 @@ fn cap_of(limited: bool, pension: YearlyPence, e: Factor) -> LumpPence
     } else {
         quarter.0
     };
-    let lower = if most < quarter.0 { most } else { quarter.0 };
-    LumpPence(lower)
+    LumpPence(most.min(quarter.0))
 }
 
 // An accepted pension as the limits see it, with E as one top over one bottom whatever the kind.

@@ -14,12 +14,8 @@ chosen c =
     let pick : Bool → ℕ = λ limited. cond limited (9 * c.args.pension.0 / 4) c.quarter_lump-quarter.result.0 in
     elim c.if-limited.branch [ then-limited w ↦ w.most-is ∙ ap pick (sym w.if-limited.true) | else-limited w ↦ w.most-is ∙ ap pick (sym w.if-limited.false) ]
 
-pub returns-then-most-quarter : goal.returns-then-most-quarter
-returns-then-most-quarter c =
+pub returns : goal.returns
+returns c =
     let a = c.args in
-    omega (arith, c.if-most-quarter.true, cap_chosen a.limited a.pension.0 _ _ a.e c.quarter_lump-quarter.ensures.0 (chosen ((goal.at.returns-then-most-quarter c).Joined-limited)))
-
-pub returns-else-most-quarter : goal.returns-else-most-quarter
-returns-else-most-quarter c =
-    let a = c.args in
-    omega (arith, c.if-most-quarter.false, cap_chosen a.limited a.pension.0 _ _ a.e c.quarter_lump-quarter.ensures.0 (chosen ((goal.at.returns-else-most-quarter c).Joined-limited)))
+    c.min.ensures
+    ∙ cap_chosen a.limited a.pension.0 _ _ a.e c.quarter_lump-quarter.ensures.0 (chosen ((goal.at.returns c).Joined-limited))
