@@ -1,7 +1,7 @@
 -- The quote of a case line ("Split" and "Refusals from the input" of document 01). A case is its head, its pensions, and the
 -- pence of allowance already used. Assumes nothing.
 use Rattle.std.specs.Prelude.{ℕ, ◌-◌, ◌*◌, ◌/◌, ◌<◌, cond, List, [], ◌∷◌, ◌++◌, ◌≡◌, eqb, length, take, drop, replicate}
-use Rattle.split.specs.declared.allowance.Allowance.{Allowance}
+use Rattle.split.specs.Allowance.{Allowance}
 use Rattle.split.specs.declared.case.Head.{Head}
 use Rattle.split.specs.declared.case.Pension.{Pension}
 use Rattle.split.specs.declared.limits.Benefit.{Benefit}

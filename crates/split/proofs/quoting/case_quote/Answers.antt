@@ -2,7 +2,7 @@
 -- each callee asks holds of an accepted case, and their promises compose.
 use Rattle.std.proofs.Common.{ℕ, ◌≡◌, map, sym, ◌∙◌, ap, subst, arith}
 use Rattle.std.proofs.lemmas.List.{length-take-le}
-use Rattle.split.specs.declared.allowance.Allowance.{Allowance}
+use Rattle.split.specs.Allowance.{Allowance}
 use Rattle.split.specs.Benefits.{benefits_of}
 use Rattle.split.specs.Bytes.{FieldOf}
 use Rattle.split.specs.Case.{allowance_used_at, case_length}
