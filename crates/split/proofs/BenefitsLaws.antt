@@ -1,7 +1,7 @@
 -- Laws of a pension as the limits see it: a cap is at most a quarter's lump, which is at most twenty pensions, and the cap and
 -- the terms that the code chooses are those of the definitions. Assumes nothing.
-use Prim.Native.Nat.{ℕ, ◌*◌, ◌/◌, ◌≤◌, min}
-use mathlib.Core.Bool.{Bool, true, false, cond}
+use Prim.Native.Nat.{ℕ, ◌*◌, ◌≤◌}
+use mathlib.Core.Bool.{Bool, true, false}
 use mathlib.Core.Path.{◌≡◌, sym, ◌∙◌}
 use native.Mathlib.Nat.{div-le_of_le-mul, mul-le-mul_left}
 use native.Mathlib.Omega.{arith}
@@ -25,13 +25,6 @@ pub cap_quarter : (limited : Bool) (pension : ℕ) (e : Factor) → cap_of limit
 unfolding cap_of
 cap_quarter true pension e = omega arith
 cap_quarter false pension e = omega arith
-
--- the cap, as the lower of what was chosen and the quarter's lump
-pub cap_chosen : (limited : Bool) (pension quarter most : ℕ) (e : Factor) → quarter ≡ quarter_lump pension e
-    → most ≡ cond limited (9 * pension / 4) quarter → min most quarter ≡ cap_of limited pension e
-unfolding cap_of
-cap_chosen true pension quarter most e q m = omega arith
-cap_chosen false pension quarter most e q m = omega arith
 
 -- terms with F1 as given, or the table's factor at the age
 pub terms_looked_up : (age found : ℕ) (t : FactorTerms) → t.f1 ≡ 0 → found ≡ table1 age

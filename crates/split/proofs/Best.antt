@@ -11,7 +11,7 @@ use native.Mathlib.Nat
 use native.Mathlib.Omega.{arith}
 use lib.ListN.{length}
 use Rattle.calendar.specs.Sums.{sum_of}
-use Rattle.split.specs.declared.allowance.Allowance.{Allowance}
+use Rattle.split.specs.Allowance.{Allowance}
 use Rattle.split.specs.declared.limits.Benefit.{Benefit}
 use Rattle.split.specs.Allowance.{no_allowance, KeepsAllowance, allowed}
 use Rattle.split.specs.Limits.{total, total_cap, WithinCaps, spend, priced_limit, KeepsPriced, KeepsExact, PositiveTops, Best}

@@ -12,7 +12,7 @@ use Rattle.std.proofs.lemmas.Bool.Decides.{nat_tests}
 use lib.ListN.{length, get_or, replicate, length-map, get_or-append}
 use Rattle.calendar.specs.declared.Date.{Date}
 use Rattle.calendar.specs.Calendar.{earlier}
-use Rattle.split.specs.declared.allowance.Allowance.{Allowance}
+use Rattle.split.specs.Allowance.{Allowance}
 use Rattle.split.specs.declared.answers.Share.{Share}
 use Rattle.split.specs.Answers.{Quote}
 use Rattle.split.specs.Case.{head_of, pensions_of, allowance_used_of}

@@ -15,7 +15,7 @@ use lib.Seq.{get_or-set_same, get_or-set_other}
 use borrow.Author.Tests.{lt-ltb}
 use Rattle.calendar.specs.Sums.{sum_of}
 use Rattle.calendar.proofs.TestsLaws.{not_true_false}
-use Rattle.split.specs.declared.allowance.Allowance.{Allowance}
+use Rattle.split.specs.Allowance.{Allowance}
 use Rattle.split.specs.declared.limits.Benefit.{Benefit}
 use Rattle.split.specs.Allowance.{no_allowance, allowed, after_lump}
 use Rattle.split.specs.Limits.{priced_limit}

@@ -14,7 +14,7 @@ use Rattle.std.proofs.lemmas.List.{map-set}
 use Rattle.std.proofs.lemmas.List.Sums.{sum_by-cons}
 use borrow.Author.Tests.{eq-eqb, ne_eqb, lt-ltb, le-ltb}
 use Rattle.split.specs.declared.limits.PensionRow.{PensionRow}
-use Rattle.split.specs.declared.allowance.Allowance.{Allowance}
+use Rattle.split.specs.Allowance.{Allowance}
 use Rattle.split.specs.Allowance.{allowed, after_lump}
 use Rattle.split.specs.Limits.{total_pension}
 use Rattle.split.specs.Working.{row_in, before_turn, benefits_in, pension_total}

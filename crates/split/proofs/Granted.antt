@@ -12,7 +12,7 @@ use Rattle.std.proofs.lemmas.List.{get_or-map}
 use Rattle.std.proofs.lemmas.List.Sums.{sum_by-cons}
 use borrow.Author.Tests.{eq-eqb, ne_eqb}
 use Rattle.factors.specs.declared.money.LumpPence.{LumpPence}
-use Rattle.split.specs.declared.allowance.Allowance.{Allowance}
+use Rattle.split.specs.Allowance.{Allowance}
 use Rattle.split.specs.declared.case.Head.{Head}
 use Rattle.split.specs.declared.case.Pension.{Pension}
 use Rattle.split.specs.declared.limits.PensionRow.{PensionRow}
@@ -63,9 +63,9 @@ shares_made h (p ∷ ps) (r ∷ rows) kept =
     ap₂ ◌∷◌ (share_worked h p r same) (shares_made h ps rows (ap (drop 1) kept))
 
 -- and their lumps together
-lumps_total : (rows : List PensionRow) → lump_total rows ≡ total (lumps_of (map row_in rows))
-lumps_total [] = refl
-lumps_total (r ∷ rows) = sum_by-cons (λ (x : PensionRow). x.lump.0) r rows ∙ ap (λ (t : ℕ). r.lump.0 + t) (lumps_total rows)
+lumps_summed : (rows : List PensionRow) → lump_total rows ≡ total (lumps_of (map row_in rows))
+lumps_summed [] = refl
+lumps_summed (r ∷ rows) = sum_by-cons (λ (x : PensionRow). x.lump.0) r rows ∙ ap (λ (t : ℕ). r.lump.0 + t) (lumps_summed rows)
 
 -- the rows that an accepted case is worked out to, before the grant
 module _ (h : Head) (ps : List Pension) (rows : List PensionRow) (made : rows ≡ map (row_of h) ps) where
@@ -97,7 +97,7 @@ module _ (h : Head) (ps : List Pension) (rows : List PensionRow) (made : rows �
         ∙ rw (made, rows_start h ps, rows_total h ps, length-map ps (row_of h), length-map ps (benefit_of h)) refl
 
     pub lumps_granted_small : Accepted h ps → lump_total after ≤ 1000000000
-    lumps_granted_small accepted = rw (lumps_total after) (lumps_small a h ps accepted (lumps_of (map row_in after)) grant_worked)
+    lumps_granted_small accepted = rw (lumps_summed after) (lumps_small a h ps accepted (lumps_of (map row_in after)) grant_worked)
 
     pub rows_range : Accepted h ps → All ShareRange after
     rows_range accepted = shares_range a h ps after accepted rows_kept grant_worked
@@ -110,7 +110,7 @@ pub quote_made : (h : Head) (ps : List Pension) (used : ℕ) (rows : List Pensio
     → ◌≡◌ {A = Quote} (record { refusal = 0; member = h.member; total = sum; shares = shares }) (granted_quote h ps used)
 unfolding granted_quote lumps_granted
 quote_made h ps used rows sum shares kept granted summed shared =
-    let total_made = summed ∙ lumps_total rows ∙ ap total granted in
+    let total_made = summed ∙ lumps_summed rows ∙ ap total granted in
     let made = shared ∙ ap padded (shares_made h ps rows kept ∙ ap (shares_of h ps) granted) in
     λ i. record { refusal = 0; member = h.member; total = record { 0 = total_made i }; shares = made i }
 

@@ -11,7 +11,7 @@ use lib.Dec.{ltb}
 use lib.ListN.{length}
 use borrow.Author.Tests.{ltb-true, ltb-false}
 use Rattle.calendar.specs.Sums.{sum_of}
-use Rattle.split.specs.declared.allowance.Allowance.{Allowance}
+use Rattle.split.specs.Allowance.{Allowance}
 use Rattle.split.specs.declared.limits.Benefit.{Benefit}
 use Rattle.split.specs.Allowance.{KeepsAllowance, after_lump}
 use Rattle.split.specs.Limits.{WithinCaps, priced_limit}

@@ -1,8 +1,13 @@
 -- The lump sum allowance (request [2] of document 02). What is left of it counts only where it applies. Assumes nothing.
-use Rattle.std.specs.Prelude.{ℕ, ◌-◌, ◌≤◌, min, true, false, cond, ◌≡◌}
+use Rattle.std.specs.Prelude.{ℕ, ◌-◌, ◌≤◌, min, Bool, true, false, cond, ◌≡◌}
 use Rattle.calendar.specs.declared.Date.{Date}
 use Rattle.calendar.specs.Calendar.{date, earlier}
-use Rattle.split.specs.declared.allowance.Allowance.{Allowance}
+use Rattle.factors.specs.declared.money.LumpPence.{LumpPence}
+
+-- an allowance: whether it applies, and what is left of it
+pub record Allowance : Type 0 where
+  pub applies : Bool
+  pub left : LumpPence
 
 -- "From 6 April 2024"
 abbrev pub allowance_start : Date

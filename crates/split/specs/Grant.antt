@@ -2,7 +2,7 @@
 -- remaining priced limit allow, "until the allowance is spent" (request [2] of document 02). Assumes nothing.
 use Rattle.std.specs.Prelude.{ℕ, zero, suc, ◌-◌, ◌*◌, ◌/◌, min, Bool, true, false, cond, ◌&&◌, ◌||◌, List, [], ◌∷◌, map, leb, ltb, eqb, length, get_or, set}
 use Rattle.factors.specs.declared.money.LumpPence.{LumpPence}
-use Rattle.split.specs.declared.allowance.Allowance.{Allowance}
+use Rattle.split.specs.Allowance.{Allowance}
 use Rattle.split.specs.declared.limits.Benefit.{Benefit}
 use Rattle.split.specs.Allowance.{allowed, after_lump}
 use Rattle.split.specs.Limits.{price_of, priced_limit}

@@ -4,7 +4,7 @@
 use Rattle.std.specs.Prelude.{ℕ, ◌+◌, ◌-◌, ◌*◌, ◌/◌, ◌≤◌, List, [], ◌∷◌}
 use Rattle.calendar.specs.Sums.{sum_of}
 use Rattle.factors.specs.declared.effective.Factor.{Factor}
-use Rattle.split.specs.declared.allowance.Allowance.{Allowance}
+use Rattle.split.specs.Allowance.{Allowance}
 use Rattle.split.specs.declared.limits.Benefit.{Benefit}
 use Rattle.split.specs.Allowance.{KeepsAllowance}
 

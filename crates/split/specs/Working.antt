@@ -1,6 +1,6 @@
 -- The pensions of a case as the code works them out, with a row for each, for the contracts of private functions. Nothing here
 -- has to be believed. Assumes nothing.
-use Rattle.std.specs.Prelude.{ℕ, ◌-◌, ◌*◌, ◌/◌, ◌≤◌, true, false, cond, List, map, ◌≡◌, ltb, eqb, length, sum_by}
+use Rattle.std.specs.Prelude.{ℕ, ◌-◌, ◌*◌, ◌/◌, ◌≤◌, true, false, cond, List, map, ◌≡◌, ltb, eqb, length, sum_by, Option, Some, None}
 use Rattle.calendar.specs.Calendar.{months, sixtieth_birthday}
 use Rattle.calendar.specs.Tests.{lowest}
 use Rattle.factors.specs.declared.effective.Factor.{Factor}
@@ -14,6 +14,8 @@ use Rattle.split.specs.declared.limits.Benefit.{Benefit}
 use Rattle.split.specs.declared.limits.PensionRow.{PensionRow}
 use Rattle.split.specs.declared.answers.Share.{Share}
 use Rattle.split.specs.Answers.{Quote}
+use Rattle.factors.specs.declared.money.LumpPence.{LumpPence}
+use Rattle.split.specs.Allowance.{Allowance, no_allowance}
 use Rattle.split.specs.Case.{pensions_at, case_length}
 use Rattle.split.specs.Bytes.{FieldOf}
 use Rattle.split.specs.Refusal.{age_of, conditions}
@@ -84,6 +86,11 @@ row_in r = record { price = r.price; cap = r.benefit.cap; lump = r.lump; waiting
 abbrev pub before_turn : PensionRow → PensionRow
 before_turn r =
     record { benefit = r.benefit; price = r.price; increase = r.increase; lump = record { 0 = 0 }; waiting = true }
+
+-- the allowance that the code has as an `Option`
+abbrev pub allowance_by : Option LumpPence → Allowance
+allowance_by None = no_allowance
+allowance_by (Some left) = record { applies = true; left = left }
 
 -- the pensions of rows
 abbrev pub benefits_in : List PensionRow → List Benefit

@@ -1,16 +1,10 @@
-// The lump sum allowance: whether it applies to a commencement, and what is left of it.
+// The lump sum allowance: what is left of it, where it applies to a commencement.
 ghost use Rattle.std.specs.Prelude.{◌≡◌, ◌-◌};
 ghost use Rattle.split.specs.Allowance.{allowance_of, allowed, after_lump};
+ghost use Rattle.split.specs.Working.{allowance_by};
 
 use calendar::Date;
 use factors::money::LumpPence;
-
-// The allowance of a case. What is left of it counts only where it applies.
-#[derive(Clone, Copy)]
-pub struct Allowance {
-    pub applies: bool,
-    pub left: LumpPence,
-}
 
 // The whole allowance, in pence.
 const WHOLE: u32 = 26827500;
@@ -19,16 +13,13 @@ const WHOLE: u32 = 26827500;
 fn left_of(amount: LumpPence, taken: LumpPence) -> LumpPence
     ensures { result.0 ≡ amount.0 - taken.0 }
 {
-    if taken.0 <= amount.0 {
-        return LumpPence(amount.0 - taken.0);
-    }
-    LumpPence(0)
+    LumpPence(amount.0.saturating_sub(taken.0))
 }
 
 // The allowance of a commencement: it applies from 6 April 2024 on, and what the amount used leaves of the whole is left. The
 // date chooses between ready values, since a branch by it could not be foreseen.
-pub fn allowance_of(commencement: Date, used: LumpPence) -> Allowance
-    ensures { result ≡ allowance_of commencement used.0 }
+pub fn allowance_of(commencement: Date, used: LumpPence) -> Option<LumpPence>
+    ensures { allowance_by result ≡ allowance_of commencement used.0 }
 {
     let start = Date {
         year: 2024,
@@ -37,29 +28,22 @@ pub fn allowance_of(commencement: Date, used: LumpPence) -> Allowance
     };
     let early = calendar::is_earlier(commencement, start);
     let left = left_of(LumpPence(WHOLE), used);
-    Allowance {
-        applies: !early,
-        left: LumpPence(if early { 0 } else { left.0 }),
-    }
+    if early { None } else { Some(left) }
 }
 
 // As much of a lump as the allowance allows.
-pub fn allowed_lump(allowance: Allowance, lump: LumpPence) -> LumpPence
-    ensures { result.0 ≡ allowed allowance lump.0 }
+pub fn allowed_lump(allowance: Option<LumpPence>, lump: LumpPence) -> LumpPence
+    ensures { result.0 ≡ allowed (allowance_by allowance) lump.0 }
 {
-    let left = allowance.left;
-    if allowance.applies & (left.0 < lump.0) {
-        return left;
+    match allowance {
+        Some(left) => LumpPence(lump.0.min(left.0)),
+        None => lump,
     }
-    lump
 }
 
 // The allowance when a lump has been granted.
-pub fn after_lump(allowance: Allowance, lump: LumpPence) -> Allowance
-    ensures { result ≡ after_lump allowance lump.0 }
+pub fn after_lump(allowance: Option<LumpPence>, lump: LumpPence) -> Option<LumpPence>
+    ensures { allowance_by result ≡ after_lump (allowance_by allowance) lump.0 }
 {
-    Allowance {
-        applies: allowance.applies,
-        left: left_of(allowance.left, lump),
-    }
+    allowance.map(|left| left_of(left, lump))
 }

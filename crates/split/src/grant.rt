@@ -4,10 +4,9 @@ ghost use Rattle.std.specs.Prelude.{◌≡◌, ◌*◌, ◌/◌, ◌≤◌, ◌<
 ghost use Rattle.split.specs.declared.limits.PensionRow.{PensionRow};
 ghost use Rattle.split.specs.Limits.{priced_limit};
 ghost use Rattle.split.specs.Grant.{Row, goes_first, cheapest, turns};
-ghost use Rattle.split.specs.Working.{benefits_in, row_in, before_turn, pension_total};
+ghost use Rattle.split.specs.Working.{allowance_by, benefits_in, row_in, before_turn, pension_total};
 
 use crate::allowance;
-use crate::allowance::Allowance;
 use crate::limits::PensionRow;
 use factors::money::LumpPence;
 
@@ -41,17 +40,13 @@ fn most_of(cap: LumpPence, price: u64, left: u64) -> LumpPence
     requires { 0 < price }
     ensures { result.0 ≡ min cap.0 (left / price) }
 {
-    let affordable = left / price;
-    if cap.0 as u64 <= affordable {
-        return cap;
-    }
-    LumpPence(affordable as u32)
+    LumpPence((cap.0 as u64).min(left / price) as u32)
 }
 
 // The rows have their turns one after the other, and are given their lumps.
-fn take_turns(rows: &mut [PensionRow], limit: u64, allowance: Allowance)
+fn take_turns(rows: &mut [PensionRow], limit: u64, allowance: Option<LumpPence>)
     requires { All (λ r. 0 < r.price) rows.old }
-    ensures taken { map row_in rows.new ≡ turns (length rows.old) (map row_in rows.old) limit allowance }
+    ensures taken { map row_in rows.new ≡ turns (length rows.old) (map row_in rows.old) limit (allowance_by allowance) }
     ensures kept { map before_turn rows.new ≡ map before_turn rows.old }
 {
     let mut left = limit;
@@ -72,10 +67,10 @@ fn take_turns(rows: &mut [PensionRow], limit: u64, allowance: Allowance)
 }
 
 // Grants rows their lumps: the priced limit is that of the pensions together, and the allowance that of their case.
-pub fn grant_of(rows: &mut [PensionRow], allowance: Allowance)
+pub fn grant_of(rows: &mut [PensionRow], allowance: Option<LumpPence>)
     requires small { pension_total rows.old ≤ 50000000 }
     requires priced { All (λ r. 0 < r.price) rows.old }
-    ensures taken { map row_in rows.new ≡ turns (length rows.old) (map row_in rows.old) (priced_limit (benefits_in rows.old)) allowance }
+    ensures taken { map row_in rows.new ≡ turns (length rows.old) (map row_in rows.old) (priced_limit (benefits_in rows.old)) (allowance_by allowance) }
     ensures kept { map before_turn rows.new ≡ map before_turn rows.old }
 {
     let sum: u32 = rows.iter().map(|row| row.benefit.pension.0).sum();

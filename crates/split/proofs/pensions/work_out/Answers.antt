@@ -1,17 +1,14 @@
 -- `work_out` goes through the pensions one by one: those before were read, judged and summed, and have their rows where none is refused.
-use Rattle.std.proofs.Common.{ℕ, ◌≡◌, ◌+◌, ◌*◌, ◌<◌, ◌≤◌, false, ◌&&◌, eqb, leb, length, List, refl, sym, ◌∙◌, ap, arith}
-use Rattle.std.proofs.Math.Nat.{le_antisymm}
+use Rattle.std.proofs.Common.{◌≡◌, length, refl, ◌∙◌, ap, arith}
 use Rattle.std.proofs.Common.{nat_eq}
 use Rattle.std.proofs.lemmas.Result.{err_from_is_err_and}
 use Rattle.calendar.specs.Tests.{lowest}
 use Rattle.refusals.specs.Numbers.{refusal_number}
 use Rattle.refusals.proofs.NumbersLaws.{given}
-use Rattle.split.specs.declared.limits.PensionRow.{PensionRow}
-use Rattle.split.specs.Case.{case_length}
 use Rattle.split.specs.Conditions.{lower, pension_conditions}
 use Rattle.split.specs.Working.{WorkedOut}
 use Rattle.split.proofs.WorkingLaws.{basis_age}
-use Rattle.split.proofs.PensionsLoop.{Gone, gone_none, one_stored, one_passed, none_refused, gone_judged}
+use Rattle.split.proofs.PensionsLoop.{gone_none, one_stored, one_passed, none_refused, gone_judged}
 use Rattle.split.proofs.pensions.work_out.Goals as goal
 use Rattle.split.proofs.pensions.work_out.Goals.{After-loop-row, After-lower_of-refused, After-is_ok, After-lower_of, then-is_ok-stated, else-is_ok-stated}
 

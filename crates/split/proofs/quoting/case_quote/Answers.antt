@@ -5,7 +5,7 @@ use Rattle.std.proofs.lemmas.List.{length-take-le}
 use Rattle.std.proofs.lemmas.Result.{err_from_is_err_and}
 use Rattle.refusals.specs.Numbers.{number}
 use Rattle.refusals.proofs.NumbersLaws.{number_some}
-use Rattle.split.specs.declared.allowance.Allowance.{Allowance}
+use Rattle.split.specs.Allowance.{Allowance}
 use Rattle.split.specs.Benefits.{benefits_of}
 use Rattle.split.specs.Bytes.{FieldOf}
 use Rattle.split.specs.Case.{allowance_used_at, case_length}
