@@ -24,7 +24,7 @@ fn place_of_number(register: &[u8], n: usize, number: u32) -> Option<usize>
 }
 
 // Whether the digits at a place of a register are these. They are compared one by one from the last, where figures differ most: the
-// comparison of slices, which begins with the first, took three to four times as long.
+// comparison of slices, which begins with the first, takes three to four times as long.
 fn has_figure(register: &[u8], at: usize, digits: &[u8; FIGURE_WIDTH]) -> bool
     requires { (at + figure_width ≤ length register.now) × DigitsAt register.now at figure_width × DigitsAt digits.now 0 figure_width }
     ensures { result ≡ eqb (number_at register.now at figure_width) (number_at digits.now 0 figure_width) }
