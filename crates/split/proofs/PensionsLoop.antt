@@ -15,13 +15,12 @@ use Rattle.calendar.proofs.SumsLaws.{sum_more}
 use Rattle.calendar.proofs.TestsLaws.{and_left, and_right}
 use Rattle.split.specs.declared.case.Head.{Head}
 use Rattle.split.specs.declared.case.Pension.{Pension}
-use Rattle.split.specs.declared.limits.Basis.{Basis}
 use Rattle.split.specs.declared.limits.PensionRow.{PensionRow}
 use Rattle.split.specs.Case.{pension_at, pensions_at, pension_length, case_length}
 use Rattle.split.specs.Bytes.{FieldOf, Taken}
 use Rattle.split.specs.Refusal.{total_stated, conditions, conditions_with}
 use Rattle.split.specs.Conditions.{lower, pension_conditions}
-use Rattle.split.specs.Working.{basis_of, AcceptedIn, row_of, WorkedOut}
+use Rattle.split.specs.Working.{AcceptedIn, row_of, WorkedOut}
 use Rattle.split.proofs.CaseLaws.{pensions_read}
 use Rattle.split.proofs.ListLoop.{map_more}
 use Rattle.split.proofs.ConditionsLaws.{lower_none, lower_zero, conditions_more, conditions_high}
@@ -82,13 +81,10 @@ module _ {h : Head} {b : List ℕ} {i next refused total : ℕ} {rows : List Pen
       one_more more (λ none small held. absurd (true≢false (sym (simp (eq-eqb r 0 none, le-leb t 50000000 small)) ∙ some)))
 
 -- a pension is accepted where nothing is refused so far
-pub none_refused : (h : Head) (basis : Basis) (p : Pension) (refused r total t : ℕ) → basis ≡ basis_of h
-    → r ≡ lower refused (lowest 3 (pension_conditions h p)) → t ≡ total + p.stated.0 → (eqb r 0 && leb t 50000000) ≡ true
-    → AcceptedIn basis p
-none_refused h basis p refused r total t e judged summed all =
+pub none_refused : (h : Head) (p : Pension) (refused r total t : ℕ) → r ≡ lower refused (lowest 3 (pension_conditions h p)) → t ≡ total + p.stated.0 → (eqb r 0 && leb t 50000000) ≡ true
+    → AcceptedIn h p
+none_refused h p refused r total t judged summed all =
     record {
-      head = h;
-      basis = e;
       none = (lower_zero refused (lowest 3 (pension_conditions h p)) (sym judged ∙ eqb-true r 0 (and_left (eqb r 0) _ all))).1;
       stated = omega (arith, leb-true t 50000000 (and_right (eqb r 0) _ all));
     }

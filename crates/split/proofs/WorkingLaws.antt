@@ -13,21 +13,19 @@ use Rattle.factors.specs.declared.effective.Factor.{Factor}
 use Rattle.factors.specs.declared.effective.FactorTerms.{FactorTerms}
 use Rattle.factors.specs.declared.money.LumpPence.{LumpPence}
 use Rattle.factors.specs.declared.money.YearlyPence.{YearlyPence}
-use Rattle.factors.specs.Commutation.{table1}
 use Rattle.factors.specs.EarlyPayment.{early_payment_factor, reduced_pension}
 use Rattle.factors.specs.Effective.{FactorRange, effective_factor, multiplier, multiple}
 use Rattle.factors.proofs.EarlyPaymentLaws.{early_payment_below}
 use Rattle.factors.proofs.EffectiveLaws.{multiplier_positive, multiple_range}
 use Rattle.split.specs.declared.case.Head.{Head}
 use Rattle.split.specs.declared.case.Pension.{Pension}
-use Rattle.split.specs.declared.limits.Basis.{Basis}
 use Rattle.split.specs.declared.limits.Benefit.{Benefit}
 use Rattle.split.specs.declared.limits.PensionRow.{PensionRow}
 use Rattle.split.specs.Refusal.{age_of}
 use Rattle.split.specs.Benefits.{worked_pension, factor_of, worked_terms, limited_lump, cap_of, benefit_of}
 use Rattle.split.specs.Limits.{price_of}
 use Rattle.split.specs.Quote.{remaining_of, second_of, share_of}
-use Rattle.split.specs.Working.{paid_thousandths, basis_of, multiple_factor, multiple_benefit, increase_of, row_of, before_turn, share_in}
+use Rattle.split.specs.Working.{paid_thousandths, multiple_factor, multiple_benefit, increase_of, row_of, before_turn, share_in}
 use Rattle.split.proofs.MultipleLaws.{quarter_multiple, price_multiple, given_up_multiple}
 
 -- the thousandths that are paid, before age 60 and from then on
@@ -39,25 +37,6 @@ paid_early h age left r a young m e = rw (← a, lt-ltb age 720 young, ← m) e
 pub paid_whole : (h : Head) (age : ℕ) → age ≡ age_of h → 720 ≤ age → 1000 ≡ paid_thousandths h
 unfolding paid_thousandths
 paid_whole h age a old = rw (← a, le-ltb age 720 old)
-
--- what a head gives, of its parts
-pub basis_made : (h : Head) (age found paid : ℕ) → age ≡ age_of h → found ≡ table1 age → paid ≡ paid_thousandths h
-    → ◌≡◌ {A = Basis} (record { age = age; found = found; paid = paid }) (basis_of h)
-unfolding basis_of
-basis_made h age found paid a f p = rw (f, a, p)
-
-module _ (b : Basis) (h : Head) (e : b ≡ basis_of h) where
-  pub basis_age : b.age ≡ age_of h
-  unfolding basis_of
-  basis_age = ap (λ (x : Basis). x.age) e
-
-  pub basis_found : b.found ≡ table1 (age_of h)
-  unfolding basis_of
-  basis_found = ap (λ (x : Basis). x.found) e
-
-  pub basis_paid : b.paid ≡ paid_thousandths h
-  unfolding basis_of
-  basis_paid = ap (λ (x : Basis). x.paid) e
 
 -- at most all thousandths are paid
 pub paid_at_most : (h : Head) → paid_thousandths h ≤ 1000

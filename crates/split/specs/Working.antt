@@ -4,12 +4,10 @@ use Rattle.std.specs.Prelude.{ℕ, ◌-◌, ◌*◌, ◌/◌, ◌≤◌, true, f
 use Rattle.calendar.specs.Calendar.{months, sixtieth_birthday}
 use Rattle.calendar.specs.Tests.{lowest}
 use Rattle.factors.specs.declared.effective.Factor.{Factor}
-use Rattle.factors.specs.Commutation.{table1}
 use Rattle.factors.specs.EarlyPayment.{early_payment_factor}
 use Rattle.factors.specs.Effective.{multiplier, multiple}
 use Rattle.split.specs.declared.case.Head.{Head}
 use Rattle.split.specs.declared.case.Pension.{Pension}
-use Rattle.split.specs.declared.limits.Basis.{Basis}
 use Rattle.split.specs.declared.limits.Benefit.{Benefit}
 use Rattle.split.specs.declared.limits.PensionRow.{PensionRow}
 use Rattle.split.specs.declared.answers.Share.{Share}
@@ -30,15 +28,9 @@ unfoldable pub paid_thousandths : Head → ℕ
 paid_thousandths h =
     cond (ltb (age_of h) 720) (early_payment_factor (months h.commencement (sixtieth_birthday h.birth))) 1000
 
--- what a head gives for each pension of its case
-unfoldable pub basis_of : Head → Basis
-basis_of h = record { age = age_of h; found = table1 (age_of h); paid = paid_thousandths h }
-
--- a pension that no condition holds of, in a case with this basis
-pub record AcceptedIn (b : Basis) (p : Pension) : Type 0 where
-  pub head : Head
-  pub basis : b ≡ basis_of head
-  pub none : lowest 3 (pension_conditions head p) ≡ 0
+-- a pension that no condition holds of, in a case with this head
+pub record AcceptedIn (h : Head) (p : Pension) : Type 0 where
+  pub none : lowest 3 (pension_conditions h p) ≡ 0
   pub stated : p.stated.0 ≤ 50000000
 
 -- E as the code has it

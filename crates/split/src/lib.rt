@@ -3,6 +3,7 @@
 
 mod allowance;
 pub mod answers;
+mod basis;
 mod case;
 mod frame;
 mod grant;

@@ -1,14 +1,13 @@
 // The limits of a split: worked-down pensions, caps and prices, and the row that they make of a pension.
 ghost use Rattle.std.specs.Prelude.{◌≡◌, cond, ℕ, ◌+◌, ◌*◌, ◌/◌, ◌≤◌, ◌<◌, eqb};
-ghost use Rattle.factors.specs.Commutation.{table1};
 ghost use Rattle.factors.specs.Effective.{FactorRange};
-ghost use Rattle.split.specs.declared.case.Head.{Head};
 ghost use Rattle.split.specs.Refusal.{age_of};
 ghost use Rattle.split.specs.Benefits.{worked_pension, worked_terms, limited_lump, quarter_lump, cap_of};
 ghost use Rattle.split.specs.Limits.{rounded_up, price_of};
-ghost use Rattle.split.specs.Working.{paid_thousandths, basis_of, AcceptedIn, multiple_benefit, increase_of, no_row, row_of};
+ghost use Rattle.split.specs.Working.{paid_thousandths, AcceptedIn, multiple_benefit, increase_of, no_row, row_of};
 
-use crate::case::{Head, Pension};
+use crate::basis::Basis;
+use crate::case::Pension;
 use crate::kind::Kind;
 use factors::effective::{Factor, FactorTerms};
 use factors::money::{LumpPence, YearlyPence};
@@ -30,78 +29,6 @@ pub struct PensionRow {
     pub lump: LumpPence,
     pub increase: u16,
     pub waiting: bool,
-}
-
-// What the head of a case gives for each of its pensions: the age, Table 1's factor at it, and how many thousandths of a
-// 2015 pension are paid.
-#[derive(Clone, Copy)]
-pub struct Basis {
-    pub age: u32,
-    pub found: u16,
-    pub paid: u16,
-}
-
-// The thousandths of a 2015 pension that are paid: Table A's before age 60, and all from then on.
-fn paid_thousandths(head: Head, age: u32) -> u16
-    requires { age ≡ age_of head }
-    ensures { result ≡ paid_thousandths head }
-{
-    if age < 720 {
-        let months = calendar::months_to_sixtieth_birthday(head.birth, head.commencement);
-        return factors::early_payment::early_payment_factor(months);
-    }
-    1000
-}
-
-pub fn basis_of(head: Head) -> Basis
-    ensures { result ≡ basis_of head }
-{
-    let age = calendar::months_between(head.birth, head.commencement);
-    let found = factors::commutation::table_factor(age);
-    let paid = paid_thousandths(head, age);
-    Basis { age, found, paid }
-}
-
-// Those of a pension: any but a 2015 pension is kept whole.
-fn thousandths_of(p: Pension, paid: u16) -> u16
-    ensures { result ≡ cond (eqb p.kind 3) paid 1000 }
-{
-    if p.is_of(Kind::Service2015) {
-        paid
-    } else {
-        1000
-    }
-}
-
-// The part of a stated pension that is paid, down to the penny.
-fn paid_part(stated: YearlyPence, thousandths: u16) -> YearlyPence
-    requires { thousandths ≤ 1000 }
-    ensures { result.0 ≡ stated.0 * thousandths / 1000 }
-{
-    let whole = stated.0 as u64;
-    let part = thousandths as u64;
-    YearlyPence((whole * part / 1000) as u32)
-}
-
-// P: what is paid of the stated pension.
-fn worked_pension(paid: u16, p: Pension) -> YearlyPence
-    requires { paid ≤ 1000 }
-    ensures { (h : Head) → paid ≡ paid_thousandths h → result.0 ≡ worked_pension h p }
-{
-    paid_part(p.stated, thousandths_of(p, paid))
-}
-
-// The terms with F1 as given, or as it was looked up at the age.
-fn worked_terms(found: u16, t: FactorTerms) -> FactorTerms
-    ensures { (age : ℕ) → found ≡ table1 age → result ≡ worked_terms age t }
-{
-    let f1 = if t.f1 == 0 { found } else { t.f1 };
-    FactorTerms {
-        f1,
-        f2: t.f2,
-        f3: t.f3,
-        increase: t.increase,
-    }
 }
 
 // Whether the two-and-a-quarter cap applies.
@@ -132,22 +59,6 @@ fn cap_of(limited: bool, pension: YearlyPence, e: Factor) -> LumpPence
     LumpPence(if limited { lower } else { quarter.0 })
 }
 
-// An accepted pension as the limits see it, with E as one top over one bottom whatever the kind.
-fn benefit_of(basis: Basis, p: Pension) -> Benefit
-    requires { AcceptedIn basis p }
-    ensures { (h : Head) → basis ≡ basis_of h → result ≡ multiple_benefit h p }
-{
-    let pension = worked_pension(basis.paid, p);
-    let terms = worked_terms(basis.found, p.terms);
-    let factor = factors::effective::effective_factor(p.kind, terms);
-    let cap = cap_of(is_limited(p), pension, factor);
-    Benefit {
-        pension,
-        factor,
-        cap,
-    }
-}
-
 // A quotient rounded up to a whole number.
 fn rounded_up(x: u64, y: u64) -> u64
     requires { (0 < y) × (x + y < 18446744073709551616) }
@@ -175,18 +86,76 @@ fn increase_of(p: Pension) -> u16
     }
 }
 
-// The row of an accepted pension before its turn.
-pub fn row_of(basis: Basis, p: Pension) -> PensionRow
-    requires { AcceptedIn basis p }
-    ensures { (h : Head) → basis ≡ basis_of h → result ≡ row_of h p }
+// The part of a stated pension that is paid, down to the penny.
+fn paid_part(stated: YearlyPence, thousandths: u16) -> YearlyPence
+    requires { thousandths ≤ 1000 }
+    ensures { result.0 ≡ stated.0 * thousandths / 1000 }
 {
-    let benefit = benefit_of(basis, p);
-    PensionRow {
-        benefit,
-        price: price_of(benefit.factor),
-        lump: LumpPence(0),
-        increase: increase_of(p),
-        waiting: true,
+    let whole = stated.0 as u64;
+    let part = thousandths as u64;
+    YearlyPence((whole * part / 1000) as u32)
+}
+
+impl Basis {
+    // The thousandths of a pension that are paid: any but a 2015 pension is kept whole.
+    fn thousandths_of(self, p: Pension) -> u16
+        ensures { result ≡ cond (eqb p.kind 3) (paid_thousandths self.head) 1000 }
+    {
+        if p.is_of(Kind::Service2015) {
+            self.paid
+        } else {
+            1000
+        }
+    }
+
+    // P: what is paid of the stated pension.
+    fn worked_pension(self, p: Pension) -> YearlyPence
+        ensures { result.0 ≡ worked_pension self.head p }
+    {
+        paid_part(p.stated, self.thousandths_of(p))
+    }
+
+    // The terms with F1 as given, or as it was looked up at the age.
+    fn worked_terms(self, t: FactorTerms) -> FactorTerms
+        ensures { result ≡ worked_terms (age_of self.head) t }
+    {
+        let f1 = if t.f1 == 0 { self.found } else { t.f1 };
+        FactorTerms {
+            f1,
+            f2: t.f2,
+            f3: t.f3,
+            increase: t.increase,
+        }
+    }
+
+    // An accepted pension as the limits see it, with E as one top over one bottom whatever the kind.
+    fn benefit_of(self, p: Pension) -> Benefit
+        requires { AcceptedIn self.head p }
+        ensures { result ≡ multiple_benefit self.head p }
+    {
+        let pension = self.worked_pension(p);
+        let factor = factors::effective::effective_factor(p.kind, self.worked_terms(p.terms));
+        let cap = cap_of(is_limited(p), pension, factor);
+        Benefit {
+            pension,
+            factor,
+            cap,
+        }
+    }
+
+    // The row of an accepted pension before its turn.
+    pub fn row_of(self, p: Pension) -> PensionRow
+        requires { AcceptedIn self.head p }
+        ensures { result ≡ row_of self.head p }
+    {
+        let benefit = self.benefit_of(p);
+        PensionRow {
+            benefit,
+            price: price_of(benefit.factor),
+            lump: LumpPence(0),
+            increase: increase_of(p),
+            waiting: true,
+        }
     }
 }
 

@@ -4,10 +4,11 @@ ghost use Rattle.refusals.specs.Numbers.{refusal_number};
 ghost use Rattle.split.specs.Case.{head_length, case_length};
 ghost use Rattle.split.specs.Working.{WorkedOut};
 
+use crate::basis::Basis;
 use crate::case::Head;
 use crate::frame::{Cursor, LONGEST};
 use crate::limits::PensionRow;
-use crate::{case, limits, refusal};
+use crate::{case, refusal};
 use refusals::Refusal;
 
 // The refusal of pensions that state so much together.
@@ -33,17 +34,17 @@ pub fn work_out(
     ensures worked { WorkedOut head bytes.now (length rows.old) (refusal_number result) rows.new }
     ensures behind { IfOk result (λ next. next.at ≡ case_length (length rows.old)) }
 {
-    let basis = limits::basis_of(head);
-    let mut refused = refusal::head_refusal(head, basis.age);
+    let basis = Basis::of(head);
+    let mut refused = basis.head_refusal();
     let mut stated: u64 = 0;
     let mut next = at;
     for row in rows.iter_mut() {
         let read = case::read_pension(bytes, next);
         let p = read.value;
-        refused = refusal::lower_of(refused, refusal::pension_refusal(head, basis.age, p));
+        refused = refusal::lower_of(refused, basis.pension_refusal(p));
         stated += p.stated.0 as u64;
         if refused.is_ok() & (stated <= 50000000) {
-            *row = limits::row_of(basis, p);
+            *row = basis.row_of(p);
         }
         next = read.next;
     }

@@ -1,13 +1,16 @@
 // Refusals 2 to 10: the length of a line, and the lowest condition that holds of its case.
-ghost use Rattle.std.specs.Prelude.{◌≡◌, true, false, cond, [], eqb};
-ghost use Rattle.split.specs.Refusal.{age_of, bad_length, undated_head, undated, disordered, bad_age, unknown_kind, unlisted, wrong_age, no_factor, unstated, conditions_with};
+ghost use Rattle.std.specs.Prelude.{◌≡◌, true, false, not, ◌||◌, cond, [], eqb};
+ghost use Rattle.split.specs.Refusal.{bad_length, undated, disordered, bad_age, unknown_kind, unlisted, wrong_age, no_factor, unstated, conditions_with};
+ghost use Rattle.calendar.specs.Calendar.{in_calendar};
 ghost use Rattle.calendar.specs.Tests.{lowest, within};
 ghost use Rattle.refusals.specs.Numbers.{refusal_number};
 ghost use Rattle.split.specs.Conditions.{lower, later_conditions, pension_conditions};
 
+use crate::basis::Basis;
 use crate::case::{Head, Pension, Service};
 use crate::frame;
 use crate::kind::Kind;
+use calendar::Date;
 use refusals::Refusal;
 
 fn is_within(low: u32, high: u32, x: u32) -> bool
@@ -24,16 +27,11 @@ pub fn has_bad_length(characters: usize, n: u8) -> bool
     !(counted & ((characters == wanted) | (characters == wanted + frame::ALLOWANCE_USED_LENGTH)))
 }
 
-fn is_undated_head(head: Head) -> bool
-    ensures { result ≡ undated_head head }
+// Whether one of two dates is not in the calendar.
+fn is_undated(first: Date, second: Date) -> bool
+    ensures { result ≡ not (in_calendar first) || not (in_calendar second) }
 {
-    !calendar::in_calendar(head.birth) | !calendar::in_calendar(head.commencement)
-}
-
-fn is_undated(p: Pension) -> bool
-    ensures { result ≡ undated p }
-{
-    !calendar::in_calendar(p.service.start) | !calendar::in_calendar(p.service.end)
+    !calendar::in_calendar(first) | !calendar::in_calendar(second)
 }
 
 fn is_disordered(head: Head, p: Pension) -> bool
@@ -111,38 +109,7 @@ fn is_unstated(p: Pension) -> bool
     p.stated.0 == 0
 }
 
-// The lowest refusal that the head alone gives.
-pub fn head_refusal(head: Head, age: u32) -> Result<(), Refusal>
-    requires { age ≡ age_of head }
-    ensures { refusal_number result ≡ lowest 3 (conditions_with false head []) }
-{
-    if is_undated_head(head) {
-        return Err(Refusal::DateOutsideCalendar);
-    }
-    if is_bad_age(age) {
-        return Err(Refusal::AgeOutsideRange);
-    }
-    Ok(())
-}
-
-// The lowest refusal that a pension gives, rule by rule.
-fn lowest_refusal(head: Head, age: u32, p: Pension) -> Result<(), Refusal>
-    requires { age ≡ age_of head }
-    ensures { refusal_number result ≡ lowest 3 (pension_conditions head p) }
-{
-    if is_undated(p) {
-        return Err(Refusal::DateOutsideCalendar);
-    }
-    if is_disordered(head, p) {
-        return Err(Refusal::DatesOutOfOrder);
-    }
-    if is_unknown_kind(p) {
-        return Err(Refusal::UnknownKind);
-    }
-    terms_refusal(age, p)
-}
-
-// The same of the conditions after the kind.
+// The lowest refusal that a pension gives by the conditions after the kind.
 fn terms_refusal(age: u32, p: Pension) -> Result<(), Refusal>
     ensures { refusal_number result ≡ lowest 7 (later_conditions age p) }
 {
@@ -181,16 +148,46 @@ fn has_plain_terms(age: u32, p: Pension) -> bool
     !is_unknown_kind(p) && terms_refusal(age, p).is_ok()
 }
 
-// The lowest refusal that a pension gives. Most pensions give none, which is told without a look at leap years; only the
-// others are held to the rules one by one.
-pub fn pension_refusal(head: Head, age: u32, p: Pension) -> Result<(), Refusal>
-    requires { age ≡ age_of head }
-    ensures { refusal_number result ≡ lowest 3 (pension_conditions head p) }
-{
-    if is_plain_service(head, p) && has_plain_terms(age, p) {
-        return Ok(());
+impl Basis {
+    // The lowest refusal that the head alone gives.
+    pub fn head_refusal(self) -> Result<(), Refusal>
+        ensures { refusal_number result ≡ lowest 3 (conditions_with false self.head []) }
+    {
+        if is_undated(self.head.birth, self.head.commencement) {
+            return Err(Refusal::DateOutsideCalendar);
+        }
+        if is_bad_age(self.age) {
+            return Err(Refusal::AgeOutsideRange);
+        }
+        Ok(())
     }
-    lowest_refusal(head, age, p)
+
+    // The lowest refusal that a pension gives, rule by rule.
+    fn lowest_refusal(self, p: Pension) -> Result<(), Refusal>
+        ensures { refusal_number result ≡ lowest 3 (pension_conditions self.head p) }
+    {
+        if is_undated(p.service.start, p.service.end) {
+            return Err(Refusal::DateOutsideCalendar);
+        }
+        if is_disordered(self.head, p) {
+            return Err(Refusal::DatesOutOfOrder);
+        }
+        if is_unknown_kind(p) {
+            return Err(Refusal::UnknownKind);
+        }
+        terms_refusal(self.age, p)
+    }
+
+    // The lowest refusal that a pension gives. Most pensions give none, which is told without a look at leap years; only the
+    // others are held to the rules one by one.
+    pub fn pension_refusal(self, p: Pension) -> Result<(), Refusal>
+        ensures { refusal_number result ≡ lowest 3 (pension_conditions self.head p) }
+    {
+        if is_plain_service(self.head, p) && has_plain_terms(self.age, p) {
+            return Ok(());
+        }
+        self.lowest_refusal(p)
+    }
 }
 
 // The lower of two refusals, of which Ok is none. The second is looked at first: most pensions have none, and the first then

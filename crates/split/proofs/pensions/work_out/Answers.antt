@@ -7,29 +7,22 @@ use Rattle.refusals.specs.Numbers.{refusal_number}
 use Rattle.refusals.proofs.NumbersLaws.{given}
 use Rattle.split.specs.Conditions.{lower, pension_conditions}
 use Rattle.split.specs.Working.{WorkedOut}
-use Rattle.split.proofs.WorkingLaws.{basis_age}
 use Rattle.split.proofs.PensionsLoop.{gone_none, one_stored, one_passed, none_refused, gone_judged}
 use Rattle.split.proofs.pensions.work_out.Goals as goal
 use Rattle.split.proofs.pensions.work_out.Goals.{After-loop-row, After-lower_of-refused, After-is_ok, After-lower_of, then-is_ok-stated, else-is_ok-stated}
-
-pub head_refusal-refused-requires : goal.head_refusal-refused-requires
-head_refusal-refused-requires c = basis_age _ _ c.basis_of-basis.ensures
 
 pub loop-row-init : goal.loop-row-init
 loop-row-init c = record {
   start = c.requires.start;
   small = omega arith;
-  gone = gone_none _ _ _ _ c.args.rows.now c.head_refusal-refused.ensures;
+  gone = gone_none _ _ _ _ c.args.rows.now (rw c.of-basis.ensures at c.head_refusal-refused.ensures);
 }
-
-pub pension_refusal-requires : goal.pension_refusal-requires
-pension_refusal-requires c = basis_age _ _ c.basis_of-basis.ensures
 
 -- the refusal so far is the lower of that of the pensions before and this one's
 judged : (c : After-lower_of-refused)
     → refusal_number c.lower_of-refused.result
     ≡ lower (refusal_number c.loop-row.refused) (lowest 3 (pension_conditions c.args.head c.read_pension-read.result.value))
-judged c = c.lower_of-refused.ensures ∙ ap (lower (refusal_number c.loop-row.refused)) c.pension_refusal.ensures
+judged c = rw c.of-basis.ensures at (c.lower_of-refused.ensures ∙ ap (lower (refusal_number c.loop-row.refused)) c.pension_refusal.ensures)
 
 -- none is refused so far where its number is 0
 told : (c : After-is_ok) → c.is_ok.result ≡ nat_eq (refusal_number c.lower_of-refused.result) 0
@@ -37,9 +30,10 @@ told c = c.is_ok.ensures.value ∙ given c.lower_of-refused.result
 
 pub row_of-requires : goal.row_of-requires
 row_of-requires c =
-    none_refused _ _ _ (refusal_number c.loop-row.refused) _ c.loop-row.stated _ c.basis_of-basis.ensures
+    rw c.of-basis.ensures
+    (none_refused _ _ (refusal_number c.loop-row.refused) _ c.loop-row.stated _
     (judged ((goal.at.row_of-requires c).After-lower_of-refused)) refl
-    (rw (← told ((goal.at.row_of-requires c).After-is_ok)) c.if-is_ok-stated.true)
+    (rw (← told ((goal.at.row_of-requires c).After-is_ok)) c.if-is_ok-stated.true))
 
 pub loop-row-preserved : goal.loop-row-preserved
 loop-row-preserved c =
@@ -54,7 +48,7 @@ loop-row-preserved c =
             | then-is_ok-stated w ↦
                 rw w.rows-is
                 (one_stored l.invariant.gone read.result.value _ _ _ l.invariant.start read.ensures judges refl w.row_of.result
-                (omega (arith, l.auto.rows, c.loop-row-test.true)) (w.row_of.ensures _ c.basis_of-basis.ensures))
+                (omega (arith, l.auto.rows, c.loop-row-test.true)) (rw c.of-basis.ensures at w.row_of.ensures))
             | else-is_ok-stated w ↦
                 rw w.rows-is
                 (one_passed l.invariant.gone read.result.value _ _ _ l.invariant.start read.ensures judges refl _

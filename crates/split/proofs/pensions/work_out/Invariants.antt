@@ -9,5 +9,5 @@ abbrev pub invariant-loop-row : goal.invariant-loop-row
 invariant-loop-row l = record {
   start : l.next.at ≡ case_length l.row-index;
   small : l.stated ≤ l.row-index * 4294967295;
-  gone : Gone l.head l.bytes l.row-index l.next.at (refusal_number l.refused) l.stated l.rows;
+  gone : Gone l.fn.head l.bytes l.row-index l.next.at (refusal_number l.refused) l.stated l.rows;
 }

@@ -1,7 +1,7 @@
 -- `paid_thousandths` is the definition `paid_thousandths`, branch by branch.
 use native.Mathlib.Omega.{arith}
 use Rattle.split.proofs.WorkingLaws.{paid_early, paid_whole}
-use Rattle.split.proofs.limits.paid_thousandths.Goals as goal
+use Rattle.split.proofs.basis.paid_thousandths.Goals as goal
 
 pub returns-then-age-lt720 : goal.returns-then-age-lt720
 returns-then-age-lt720 c =
