@@ -21,7 +21,7 @@ const TABLE_1: [u16; 240] = [
     1390, 1385, 1380, 1375, 1370, 1364, 1358, 1353, 1347, 1341, 1335, 1329, 1323, 1318, 1312, 1306,
 ];
 
-// The factor at an age in months; 0 outside 636 to 875.
+// The factor at an age in months; 0 outside 636 to 875, and no Option, as the definition table1 answers for every age.
 #[tactic(auto, unfolding(crate::specs::Commutation::table1))]
 pub fn table_factor(age: u32) -> u16
     ensures { result ≡ table1 age }

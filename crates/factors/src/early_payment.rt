@@ -12,7 +12,8 @@ const TABLE_A: [u16; 61] = [
     785, 781, 778, 775,
 ];
 
-// The factor at a number of months to the 60th birthday; 0 above 60.
+// The factor at a number of months to the 60th birthday; 0 above 60, and no Option, as the definition early_payment_factor answers for
+// every number.
 #[tactic(auto, unfolding(crate::specs::EarlyPayment::early_payment_factor, crate::specs::EarlyPayment::table_a))]
 pub fn early_payment_factor(months: u32) -> u16
     ensures { result ≡ early_payment_factor months }

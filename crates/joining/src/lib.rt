@@ -31,7 +31,8 @@ impl<'a> Lent<'a> {
     }
 }
 
-// Whether two parts differ in a character.
+// Whether two parts differ in a character: the definition same_characters goes character by character, and its equality with the
+// slices' own stands here.
 fn is_unlike(first: &[u8], second: &[u8]) -> bool
     ensures { result ≡ not (same_characters first.now second.now) }
 {
@@ -96,7 +97,8 @@ fn join_ordered(low: Lent<'_>, high: Lent<'_>, target: &mut [u8]) -> Result<usiz
 }
 
 // Joins two registers into a third buffer: the used length of the result, which stands at the buffer's start; or that a register is
-// bad, that the two can't be joined or that the buffer is too short, and the buffer as it was.
+// bad, that the two can't be joined or that the buffer is too short, and the buffer as it was. Bytes and used length stand side by side,
+// as C hands them over.
 pub fn join(
     first: &[u8],
     first_used: usize,

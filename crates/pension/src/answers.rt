@@ -1,5 +1,6 @@
 // What the C calls answer, as pension.h declares it: refusals and members in 32 bits, money in pence in 64, offsets,
-// lengths and counts as the machine has them.
+// lengths and counts as the machine has them. A refusal stays a number beside the figures, and the shares' figures stand side by side,
+// since the C interface has them so.
 
 // A quote: refusal 0 and the figures of up to four pensions, or the refusal and zeros.
 #[repr(C)]

@@ -1,4 +1,5 @@
-// The register: quotes filed as numbered lines in lent bytes, checked and found again.
+// The register: quotes filed as numbered lines in lent bytes, checked and found again. The calls take bytes and a used length side by
+// side, and a first number with 0 for the default, as C hands them over.
 #![tactic(auto)]
 
 pub mod answers;

@@ -105,7 +105,8 @@ fn digits_at(line: &[u8], at: usize, count: usize) -> u32
     value
 }
 
-// A place in a line. Each method takes the next field and hands the cursor back moved on.
+// A place in a line. Each method takes the next field and hands the cursor back moved on. The bytes are no part of it: else every contract
+// would have to say that the next cursor has the same.
 #[derive(Clone, Copy)]
 pub struct Cursor {
     pub at: usize,

@@ -41,7 +41,8 @@ fn is_limited(p: Pension) -> bool
     (first | second) & (((300 <= months) & (months <= 359)) & (p.lift == 0))
 }
 
-// A quarter of the pension, as a lump.
+// A quarter of the pension, as a lump. The range of E is asked for here, and is no invariant of Factor, since effective_factor gives one
+// for any terms.
 fn quarter_lump(pension: YearlyPence, e: Factor) -> LumpPence
     requires { (pension.0 ≤ 50000000) × FactorRange e }
     ensures { (result.0 ≡ quarter_lump pension.0 e) × (result.0 ≤ 1000000000) }
