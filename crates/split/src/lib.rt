@@ -46,10 +46,9 @@ pub fn quote(line: &[u8]) -> Result<Granted, Refusal>
     if frame::decode(line, &mut bytes) {
         return Err(Refusal::BadCharacter);
     }
-    let read = case::read_head(&bytes, Cursor { at: 0 });
-    let head = read.value;
-    if refusal::has_bad_length(line.len(), head.count) {
+    let head = case::read_head(&bytes, Cursor { at: 0 });
+    if refusal::has_bad_length(line.len(), head.value.count) {
         return Err(Refusal::BadLength);
     }
-    quoting::case_quote(&bytes, read.next, head, head.count as usize, line.len())
+    quoting::case_quote(&bytes, head, line.len())
 }

@@ -9,7 +9,7 @@ ghost use Rattle.split.specs.Ranges.{LumpRange, ShareRange};
 
 use crate::answers::{Granted, Share};
 use crate::case::Head;
-use crate::frame::{Cursor, LONGEST};
+use crate::frame::{Field, LONGEST};
 use crate::limits::PensionRow;
 use crate::{allowance, case, grant, limits, pensions};
 use factors::effective::Factor;
@@ -77,28 +77,25 @@ fn total_of(rows: &[PensionRow]) -> LumpPence
     LumpPence(rows.iter().map(|row| row.lump.0).sum())
 }
 
-// The quote of a case with n pensions, the first of which is where the cursor stands, in a line of so many characters.
+// The quote of a case of which the head was read, in a line of so many characters.
 pub fn case_quote(
     bytes: &[u8; LONGEST],
-    at: Cursor,
-    head: Head,
-    n: usize,
+    head: Field<Head>,
     characters: usize,
 ) -> Result<Granted, Refusal>
-    requires { (at.at ≡ head_length) × (bad_length characters n ≡ false) }
-    ensures { FieldOf bytes.now characters (answered result) (λ s. case_quote head (pensions_at s n) (allowance_used_at s (case_length n) characters)) }
+    requires { (head.next.at ≡ head_length) × (bad_length characters head.value.count ≡ false) }
+    ensures { FieldOf bytes.now characters (answered result) (λ s. case_quote head.value (pensions_at s head.value.count) (allowance_used_at s (case_length head.value.count) characters)) }
 {
+    let Field { value: head, next } = head;
     let mut places = [limits::no_row(); 4];
-    let rows = &mut places[..n];
-    let next = pensions::work_out(bytes, at, head, rows)?;
+    let rows = &mut places[..head.count as usize];
+    let next = pensions::work_out(bytes, next, head, rows)?;
     let used = case::read_allowance_used(bytes, next, characters);
     let allowance = allowance::allowance_of(head.commencement, used);
     grant::grant_of(rows, allowance);
-    let total = total_of(rows);
-    let shares = shares_of(rows);
     Ok(Granted {
         member: head.member,
-        total,
-        shares,
+        total: total_of(rows),
+        shares: shares_of(rows),
     })
 }

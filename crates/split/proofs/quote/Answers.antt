@@ -11,7 +11,7 @@ use Rattle.split.specs.Refusal.{bad_length}
 use Rattle.split.proofs.ReadingLaws.{length_unlisted, length_between, refused_character, refused_length, refused_case}
 use Rattle.split.proofs.QuoteLaws.{quote_refused, quote_read}
 use Rattle.split.proofs.quote.Goals as goal
-use Rattle.split.proofs.quote.Goals.{After-read_head-read, Else-decode, Else-has_bad_length, Else-line}
+use Rattle.split.proofs.quote.Goals.{After-read_head-head, Else-decode, Else-has_bad_length, Else-line}
 
 -- past the first test the line is longer than a block, and no longer than the longest
 sized : (c : Else-line)
@@ -28,32 +28,32 @@ digits : (c : Else-decode) → bad_character c.args.line.now ≡ false
 digits c = sym c.decode.ensures.0 ∙ c.if-decode.false
 
 -- and the values that are read from its bytes are those of the line
-headed : (c : After-read_head-read)
-    → c.read_head-read.result.value ≡ head_of c.args.line.now
+headed : (c : After-read_head-head)
+    → c.read_head-head.result.value ≡ head_of c.args.line.now
 unfolding head_of
 headed c =
-    c.read_head-read.ensures.value _ (c.decode.ensures.1 c.if-decode.false)
-    (omega (arith, sized ((goal.at.After-read_head-read c).Else-line), c.read_head-read.ensures.next))
+    c.read_head-head.ensures.value _ (c.decode.ensures.1 c.if-decode.false)
+    (omega (arith, sized ((goal.at.After-read_head-head c).Else-line), c.read_head-head.ensures.next))
 
 pub returns-then-has_bad_length : goal.returns-then-has_bad_length
 returns-then-has_bad_length c =
     quote_refused _ 2 _ (λ z. omega arith)
-    (refused_length _ _ (digits ((goal.at.returns-then-has_bad_length c).Else-decode)) (headed ((goal.at.returns-then-has_bad_length c).After-read_head-read)) (sym c.has_bad_length.ensures ∙ c.if-has_bad_length.true))
+    (refused_length _ _ (digits ((goal.at.returns-then-has_bad_length c).Else-decode)) (headed ((goal.at.returns-then-has_bad_length c).After-read_head-head)) (sym c.has_bad_length.ensures ∙ c.if-has_bad_length.true))
     refl
 
 -- past the third its length is that of its count
 measured : (c : Else-has_bad_length)
     → bad_length (length c.args.line.now)
-    c.read_head-read.result.value.count ≡ false
+    c.read_head-head.result.value.count ≡ false
 measured c = sym c.has_bad_length.ensures ∙ c.if-has_bad_length.false
 
 pub case_quote-requires : goal.case_quote-requires
 case_quote-requires c =
-    (c.read_head-read.ensures.next, measured ((goal.at.case_quote-requires c).Else-has_bad_length))
+    (c.read_head-head.ensures.next, measured ((goal.at.case_quote-requires c).Else-has_bad_length))
 
 pub returns : goal.returns
 returns c =
-    quote_read _ _ _ (headed ((goal.at.returns c).After-read_head-read)) (refused_case _ _ (digits ((goal.at.returns c).Else-decode)) (headed ((goal.at.returns c).After-read_head-read)) (measured ((goal.at.returns c).Else-has_bad_length)))
+    quote_read _ _ _ (headed ((goal.at.returns c).After-read_head-head)) (refused_case _ _ (digits ((goal.at.returns c).Else-decode)) (headed ((goal.at.returns c).After-read_head-head)) (measured ((goal.at.returns c).Else-has_bad_length)))
     (c.case_quote.ensures _ (c.decode.ensures.1 c.if-decode.false) (omega arith))
 
 pub unread_quote-requires : goal.unread_quote-requires
