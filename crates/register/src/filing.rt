@@ -10,7 +10,8 @@ ghost use Rattle.register.specs.Scan.{next_after, scanned_as, Known, EnteredAs};
 
 use crate::answers::{Fault, FiledLines};
 use crate::layout::LINE_LENGTH;
-use crate::{checking, layout, text};
+use crate::text::Lines;
+use crate::{checking, layout};
 use refusals::Refusal;
 use split::answers::Granted;
 
@@ -133,14 +134,10 @@ pub fn file_lines(
     let mut known = checking::scan(register, used);
     let mut filled = used;
     let mut count = 0;
-    let mut at = 0;
-    while at < lines.len() {
-        let end = text::line_end(lines, at);
-        let case = Filing {
-            first_number,
-            line: &lines[at..end],
-        };
+    for line in Lines::of(lines) {
+        let case = Filing { first_number, line };
         let filed = file_known(register, filled, known, case);
+        // By the index: what the contract of `get_mut` says of the slice is its length alone.
         if count < refusals.len() {
             refusals[count] = refusals::number_of(&filed);
         }
@@ -149,7 +146,6 @@ pub fn file_lines(
             known = Ok(Some(entered.number));
         }
         count += 1;
-        at = end + 1;
     }
     FiledLines {
         used: filled,
