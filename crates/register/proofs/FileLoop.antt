@@ -29,11 +29,11 @@ use Rattle.register.specs.Check.{following, check_of}
 use Rattle.register.specs.Steps.{runs}
 use Rattle.register.specs.File.{Filing, filing, number_from, number_given, refusal_given, file_refusal, filed_answer, text_filed, over, grown, file_step, file_run}
 use Rattle.register.specs.Text.{text_lines, text_filings, refusal_bytes, FiledText, FiledAll}
-use Rattle.register.specs.Scan.{Scanned, scanned_as, ScannedAs, Known, entered_as, LineEnd}
+use Rattle.register.specs.Scan.{Scanned, scanned_as, ScannedAs, Known, entered_as}
 use Rattle.register.proofs.LineLaws.{line_for-length}
 use Rattle.register.proofs.StepsLaws.{runs_answer, runs_state, runs_count}
 use Rattle.register.proofs.FileLaws.{answer_granted, answer_refused, answer_refusal, text_granted, text_refused, grown_none}
-use Rattle.register.proofs.TextLaws.{line_cut, lines_none, refusals_size}
+use Rattle.register.proofs.TextLaws.{lines_few, refusals_size}
 use Rattle.register.proofs.Shown.{file_sound, step_sound}
 use Rattle.register.proofs.Demands.{list_claim}
 
@@ -162,78 +162,83 @@ module _ (r : Register) (f : Filing) (k : Scanned) (known : Known r k) (a : File
       let state = state_stays r f (λ e. h (said ∙ e)) in
       rw (state, same) (stays, known)
 
--- What filing the lines of a text keeps: the lines passed are filed, and what is known of the register is known of what they left.
-pub record Passed (r₀ : Register) (first : ℕ) (text old bytes refusals : List ℕ) (k : Scanned) (used n at : ℕ) : Type 0 where
+-- What filing the lines of a text keeps: the lines passed are filed, the others are left, and what is known of the register is known
+-- of what they left.
+pub record Passed (r₀ : Register) (first : ℕ) (text old bytes refusals : List ℕ) (k : Scanned) (used n : ℕ) (left : List (List ℕ)) : Type 0 where
   pub done : List (List ℕ)
-  pub lines : text_lines text ≡ done ++ text_lines (drop at text)
+  pub lines : text_lines text ≡ done ++ left
   pub state : lent bytes used ≡ (file_run r₀ (map (filing first) done)).state
   pub known : Known (lent bytes used) k
   pub given : refusals ≡ refusal_bytes (file_run r₀ (map (filing first) done)).answer old
   pub count : n ≡ length (file_run r₀ (map (filing first) done)).answer
 
-pub passed_none : (r : Register) (first : ℕ) (text old : List ℕ) (k : Scanned) → Known r k → Passed r first text old r.bytes old k r.used 0 0
+pub passed_none : (r : Register) (first : ℕ) (text old : List ℕ) (k : Scanned) → Known r k
+    → (left : List (List ℕ)) → left ≡ text_lines text → Passed r first text old r.bytes old k r.used 0 left
 unfolding runs refusal_bytes
-passed_none r first text old k known =
-    record { done = []; lines = refl; state = refl; known = known; given = refl; count = refl }
+passed_none r first text old k known left all =
+    record { done = []; lines = sym all; state = refl; known = known; given = refl; count = refl }
 
 map_count : (first : ℕ) (ls : List (List ℕ)) → length (map (filing first) ls) ≡ length ls
 map_count first [] = refl
 map_count first (l ∷ ls) = ap suc (map_count first ls)
 
-module _ {r₀ : Register} {first : ℕ} {text old bytes refusals : List ℕ} {k : Scanned} {used n at : ℕ}
-    (p : Passed r₀ first text old bytes refusals k used n at) where
+module _ {r₀ : Register} {first : ℕ} {text old bytes refusals : List ℕ} {k : Scanned} {used n : ℕ} {left : List (List ℕ)}
+    (p : Passed r₀ first text old bytes refusals k used n left) where
   pub passed_size : length refusals ≡ length old
   passed_size = refusals_size (file_run r₀ (map (filing first) p.done)).answer old refusals p.given
 
-  pub passed_all : length text ≤ at → FiledText r₀ first text old bytes refusals (record { used = used; lines = n })
-  passed_all h =
+  counted : n ≡ length p.done
+  counted = p.count ∙ runs_count file_step r₀ (map (filing first) p.done) ∙ map_count first p.done
+
+  -- as many lines as are passed and left, so that the text has a character for each
+  pub passed_few : n + length left ≤ length text
+  passed_few = omega (arith, counted, ap length p.lines ∙ length-append p.done left, lines_few text)
+
+  pub passed_all : left ≡ [] → FiledText r₀ first text old bytes refusals (record { used = used; lines = n })
+  passed_all none =
       let all : text_lines text ≡ p.done =
-      p.lines ∙ ap (λ (ls : List (List ℕ)). p.done ++ ls) (lines_none text at h) ∙ append-nil p.done
+      p.lines ∙ ap (λ (ls : List (List ℕ)). p.done ++ ls) none ∙ append-nil p.done
       in
-      let counted : n ≡ length (text_lines text) =
-      p.count ∙ runs_count file_step r₀ (map (filing first) p.done) ∙ map_count first p.done ∙ ap length (sym all)
+      let lines : n ≡ length (text_lines text) = counted ∙ ap length (sym all)
       in record {
         answered =
             λ i. record {
               used = (ap (λ (x : Register). x.used) p.state ∙ ap (λ (ls : List (List ℕ)). (file_run r₀ (map (filing first) ls)).state.used) (sym all)) i;
-              lines = counted i;
+              lines = lines i;
             };
         bytes = rw all (ap (λ (x : Register). x.bytes) p.state);
         given = rw all p.given;
       }
 
-  module _ (end : ℕ) (h : at < length text) (found : LineEnd text at end) where
-    abbrev line : List ℕ
-    line = take (end - at) (drop at text)
-
-    -- the line from here to its end is filed
-    pub passed_next : (bytes' refusals' : List ℕ) (k' : Scanned) (used' n' : ℕ)
-        → bytes' ≡ (file_step (lent bytes used) (filing first line)).state.bytes
-        → (used' ≡ (file_step (lent bytes used) (filing first line)).state.used) × Known (file_step (lent bytes used) (filing first line)).state k'
-        → refusals' ≡ refusal_bytes ((file_run r₀ (map (filing first) p.done)).answer ++ ((file_step (lent bytes used) (filing first line)).answer ∷ [])) old
-        → n' ≡ n + 1 → Passed r₀ first text old bytes' refusals' k' used' n' (end + 1)
-    passed_next bytes' refusals' k' used' n' written left answered more =
-        let fs = map (filing first) p.done in
-        let on : map (filing first) (p.done ++ (line ∷ [])) ≡ fs ++ (filing first line ∷ []) = map-append (filing first) p.done (line ∷ []) in
-        let here : lent bytes' used' ≡ (file_step (lent bytes used) (filing first line)).state =
-        λ i. record { bytes = written i; used = left.0 i }
-        in
-        let answers : (file_run r₀ (map (filing first) (p.done ++ (line ∷ [])))).answer
-        ≡ (file_run r₀ fs).answer ++ ((file_step (lent bytes used) (filing first line)).answer ∷ []) =
-        ap (λ (es : List Filing). (file_run r₀ es).answer) on ∙ runs_answer file_step r₀ fs (filing first line)
-        ∙ ap (λ (x : Register). (file_run r₀ fs).answer ++ ((file_step x (filing first line)).answer ∷ [])) (sym p.state)
-        in record {
-          done = p.done ++ (line ∷ []);
-          lines =
-              p.lines ∙ rw (line_cut text at end h found)
-              (sym (append_assoc p.done (line ∷ []) (text_lines (drop (end + 1) text))));
-          state =
-              here ∙ ap (λ (x : Register). (file_step x (filing first line)).state) p.state
-              ∙ sym (ap (λ (es : List Filing). (file_run r₀ es).state) on ∙ runs_state file_step r₀ fs (filing first line));
-          known = rw here left.1;
-          given = answered ∙ ap (λ (l : List Filed). refusal_bytes l old) (sym answers);
-          count = more ∙ rw answers (simp length-append (omega (arith, p.count)));
-        }
+  -- the first of the lines left is filed
+  pub passed_next : (line : List ℕ) (left' : List (List ℕ)) → left ≡ line ∷ left'
+      → (bytes' refusals' : List ℕ) (k' : Scanned) (used' n' : ℕ)
+      → bytes' ≡ (file_step (lent bytes used) (filing first line)).state.bytes
+      → (used' ≡ (file_step (lent bytes used) (filing first line)).state.used) × Known (file_step (lent bytes used) (filing first line)).state k'
+      → refusals' ≡ refusal_bytes ((file_run r₀ (map (filing first) p.done)).answer ++ ((file_step (lent bytes used) (filing first line)).answer ∷ [])) old
+      → n' ≡ n + 1 → Passed r₀ first text old bytes' refusals' k' used' n' left'
+  passed_next line left' cut bytes' refusals' k' used' n' written after answered more =
+      let fs = map (filing first) p.done in
+      let on : map (filing first) (p.done ++ (line ∷ [])) ≡ fs ++ (filing first line ∷ []) = map-append (filing first) p.done (line ∷ []) in
+      let here : lent bytes' used' ≡ (file_step (lent bytes used) (filing first line)).state =
+      λ i. record { bytes = written i; used = after.0 i }
+      in
+      let answers : (file_run r₀ (map (filing first) (p.done ++ (line ∷ [])))).answer
+      ≡ (file_run r₀ fs).answer ++ ((file_step (lent bytes used) (filing first line)).answer ∷ []) =
+      ap (λ (es : List Filing). (file_run r₀ es).answer) on ∙ runs_answer file_step r₀ fs (filing first line)
+      ∙ ap (λ (x : Register). (file_run r₀ fs).answer ++ ((file_step x (filing first line)).answer ∷ [])) (sym p.state)
+      in record {
+        done = p.done ++ (line ∷ []);
+        lines =
+            p.lines ∙ ap (λ (ls : List (List ℕ)). p.done ++ ls) cut
+            ∙ sym (append_assoc p.done (line ∷ []) left');
+        state =
+            here ∙ ap (λ (x : Register). (file_step x (filing first line)).state) p.state
+            ∙ sym (ap (λ (es : List Filing). (file_run r₀ es).state) on ∙ runs_state file_step r₀ fs (filing first line));
+        known = rw here after.1;
+        given = answered ∙ ap (λ (l : List Filed). refusal_bytes l old) (sym answers);
+        count = more ∙ rw answers (simp length-append (omega (arith, p.count)));
+      }
 
 -- a register filled from nothing keeps the list claim
 pub filed_all : (s : List ℕ) (first : ℕ) (text old after refusals : List ℕ) (a : FiledLines) → FiledText (lent s 0) first text old after refusals a

@@ -15,7 +15,6 @@ pub mod LedgerLaws
 pub mod LineLaws
 pub mod LineLoop
 pub mod Printed
-pub mod Searched
 pub mod Shown
 pub mod StepsLaws
 pub mod TextLaws

@@ -1,16 +1,17 @@
--- A text of case lines: the line at a place is the first of those from there on; and the refusals of answers over the bytes that
--- were there, with one more answer. By induction on the characters and on the answers. Assumes nothing.
-use Prim.Native.Nat.{ℕ, zero, suc, ◌+◌, ◌-◌, ◌≤◌, ◌<◌}
+-- A text of case lines: its first line is what stands before its first newline, or all; and the refusals of answers over the bytes
+-- that were there, with one more answer. By induction on the characters and on the answers. Assumes nothing.
+use Prim.Native.Nat.{ℕ, zero, suc, ◌+◌, ◌≤◌, ◌<◌}
 use mathlib.Core.Bool.{false}
 use mathlib.Core.List.{List, [], ◌∷◌, ◌++◌, append-nil, append_assoc}
 use mathlib.Core.Path.{◌≡◌, refl, sym, ◌∙◌, ap}
 use native.Mathlib.Omega.{arith}
 use lib.Dec.{eqb}
-use lib.ListN.{length, get_or, take, drop, set, length-append, length-drop, drop_of_length-le}
-use lib.Seq.{get_or-drop, drop-drop}
+use lib.ListN.{length, get_or, take, drop, set, length-append, drop_of_length-le}
+use Rattle.std.proofs.lemmas.Bool.{eqb-true, eq-eqb, ne_eqb}
+use Rattle.std.proofs.lemmas.List.{take_all}
+use Rattle.memchr.specs.Find.{Nowhere, NoneBefore, Passes, is_byte}
 use Rattle.register.specs.Answers.{Filed}
 use Rattle.register.specs.Text.{lines_with, text_lines, refusal_bytes}
-use Rattle.register.specs.Scan.{LineEnd}
 
 -- a run without a newline and what ends it are the first line
 lines_cut : (before xs : List ℕ) (k : ℕ) → 0 < length before + length xs → k ≤ length xs
@@ -27,21 +28,40 @@ lines_cut before (x ∷ xs) (suc k) some inside unbroken ended =
     (λ j h. unbroken (suc j) (omega arith)) (λ h. ended (omega arith))
     ∙ simp append_assoc)
 
--- the line at a place of a text is the first of those from there on
-pub line_cut : (text : List ℕ) (at end : ℕ) → at < length text → LineEnd text at end
-    → text_lines (drop at text) ≡ take (end - at) (drop at text) ∷ text_lines (drop (end + 1) text)
-unfolding text_lines
-line_cut text at end h found =
-    let past : at + suc (end - at) ≡ end + 1 = omega (arith, found.after) in
-    lines_cut [] (drop at text) (end - at) (simp length-drop (omega arith)) (simp length-drop (omega (arith, found.inside)))
-    (λ j g. rw get_or-drop (found.unbroken (at + j) (omega arith) (omega arith)))
-    (λ g. rw get_or-drop (ap (λ (n : ℕ). get_or text n 0) (omega (arith, found.after)) ∙ found.ended (omega (arith, simp length-drop at g))))
-    ∙ simp (drop-drop, past)
-
--- past the end there is none
-pub lines_none : (text : List ℕ) (at : ℕ) → length text ≤ at → text_lines (drop at text) ≡ []
+-- a text without characters has no line
+pub lines_none : (text : List ℕ) → length text ≡ 0 → text_lines text ≡ []
 unfolding text_lines lines_with
-lines_none text at h = rw (drop_of_length-le text {i = at} h)
+lines_none [] h = refl
+lines_none (c ∷ cs) h = absurd (omega (arith, h))
+
+-- what stands before the first newline is the first line
+pub lines_first : (text : List ℕ) (end : ℕ) → NoneBefore (Passes (is_byte 10) text) 0 (length text) end → Passes (is_byte 10) text end
+    → text_lines text ≡ take end text ∷ text_lines (drop (end + 1) text)
+unfolding text_lines
+lines_first text end found newline =
+    let past : suc end ≡ end + 1 = omega arith in
+    lines_cut [] text end (omega (arith, found.high)) (omega (arith, found.high))
+    (λ j h. ne_eqb _ 10 (λ z. found.before j (omega arith) h (eq-eqb _ _ z))) (λ g. eqb-true _ _ newline) ∙ simp past
+
+-- a text without a newline is one line
+pub lines_last : (text : List ℕ) → 0 < length text → Nowhere (Passes (is_byte 10) text) 0 (length text)
+    → text_lines text ≡ text ∷ text_lines []
+unfolding text_lines
+lines_last text some none =
+    lines_cut [] text (length text) (omega (arith, some)) (omega arith)
+    (λ j h. ne_eqb _ 10 (λ z. none j (omega arith) h (eq-eqb _ _ z))) (λ g. absurd (omega (arith, g)))
+    ∙ simp (take_all (length text) text (omega arith), drop_of_length-le text {i = suc (length text)} (omega arith))
+
+-- behind the characters before it a text has at most a line for each character
+lines_with_few : (before text : List ℕ) → length (lines_with before text) ≤ length before + length text
+unfolding lines_with
+lines_with_few [] [] = omega arith
+lines_with_few (b ∷ before) [] = omega arith
+lines_with_few before (c ∷ cs) = grind (arith, length-append, lines_with_few [] cs, lines_with_few (before ++ (c ∷ [])) cs)
+
+pub lines_few : (text : List ℕ) → length (text_lines text) ≤ length text
+unfolding text_lines
+lines_few text = omega (arith, lines_with_few [] text)
 
 -- one more refusal, where there is room and where there is none
 refusals_more : (answers : List Filed) (a : Filed) (old : List ℕ) → length answers < length old

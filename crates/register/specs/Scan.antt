@@ -1,7 +1,7 @@
 -- Definitions for the contracts of private functions: what the code knows of a register that it went along, of a line that it
--- looked for, of a case that it files, and of a line's end that it looked for, and what it makes on the way to a line. Nothing here has to be believed.
+-- looked for, of a case that it files, and of the lines of a text that are left, and what it makes on the way to a line. Nothing here has to be believed.
 -- Assumes nothing.
-use Rattle.std.specs.Prelude.{ℕ, ◌+◌, ◌*◌, ◌/◌, ◌%◌, ◌≤◌, ◌<◌, Bool, true, false, List, [], ◌∷◌, ◌≡◌, eqb, map, length, get_or, Option, Some, None, Result, Ok, Err, IfOk}
+use Rattle.std.specs.Prelude.{ℕ, ◌+◌, ◌*◌, ◌/◌, ◌%◌, ◌<◌, Bool, true, false, List, [], ◌∷◌, ◌≡◌, map, length, get_or, Option, Some, None, Result, Ok, Err, IfOk}
 use Rattle.std.specs.Int.{w32, to_be_bytes}
 use Rattle.std.specs.List.{flat_map}
 use Rattle.calendar.specs.Tests.{any}
@@ -10,12 +10,14 @@ use Rattle.refusals.specs.declared.Refusal.{Refusal}
 use Rattle.refusals.specs.Numbers.{number}
 use Rattle.register.specs.declared.answers.Fault.{Fault}
 use Rattle.register.specs.declared.filing.Entered.{Entered}
+use Rattle.register.specs.declared.text.Lines.{Lines}
 use Rattle.register.specs.Answers.{Checked, Located, Filed}
 use Rattle.register.specs.Line.{figure_width}
 use Rattle.register.specs.Layout.{Register, Layout, length_of, used_lines, line_layout}
 use Rattle.register.specs.Check.{following, next_number, check_lines, check_of}
 use Rattle.register.specs.Find.{last_place}
 use Rattle.register.specs.File.{Filing, number_from, file_step}
+use Rattle.register.specs.Text.{text_lines}
 
 -- what going along a register finds: the check's refusal and offset, and where there is none the number that a next line must have,
 -- 0 where there is no line
@@ -76,12 +78,9 @@ pub record EnteredAs (r : Register) (f : Filing) (next : ℕ) (answer : Result E
   pub bytes : after ≡ (file_step r f).state.bytes
   pub numbered : IfOk answer (λ (e : Entered). e.number ≡ number_from next f)
 
--- the end of the line that begins at a place: no newline before it, and a newline or the text's end at it
-pub record LineEnd (text : List ℕ) (at end : ℕ) : Type 0 where
-  pub after : at ≤ end
-  pub inside : end ≤ length text
-  pub unbroken : (j : ℕ) → at ≤ j → j < end → eqb (get_or text j 0) 10 ≡ false
-  pub ended : end < length text → get_or text end 0 ≡ 10
+-- the lines of the text that is left
+abbrev pub lines_left : Lines → List (List ℕ)
+lines_left l = text_lines l.0.now
 
 -- the digits of a byte, and the bytes of a figure
 abbrev pub byte_digits : ℕ

@@ -10,7 +10,8 @@ ghost use Rattle.register.specs.Scan.{next_after, scanned_as, Known, EnteredAs};
 
 use crate::answers::{Fault, FiledLines};
 use crate::layout::LINE_LENGTH;
-use crate::{checking, layout, text};
+use crate::text::Lines;
+use crate::{checking, layout};
 use refusals::Refusal;
 use split::answers::Granted;
 
@@ -23,24 +24,33 @@ const YEAR_UNIT: u32 = 65536;
 // How far the default first numbers of one year and the next are apart.
 const YEAR_NUMBERS: u64 = 100000;
 
-// The number that a filing sets in an empty register: the first number, and for 0 the default of its case.
-fn number_set(first_number: u32, line: &[u8]) -> u64
-    ensures { result ≡ number_set (filing first_number line.now) }
-{
-    if first_number == 0 {
-        let year = split::number_at(line, COMMENCEMENT_AT) / YEAR_UNIT;
-        return year as u64 * YEAR_NUMBERS + 1;
-    }
-    first_number as u64
+// What is filed: the first number, which an empty register takes, and the case line.
+#[derive(Clone, Copy)]
+struct Filing<'a> {
+    first_number: u32,
+    line: &'a [u8],
 }
 
-// The number given behind the last line, and where there is none the one that the filing sets.
-fn number_given(last: Option<u32>, first_number: u32, line: &[u8]) -> u64
-    ensures { result ≡ number_from (next_after last) (filing first_number line.now) }
-{
-    match last {
-        Some(number) => checking::following_number(number),
-        None => number_set(first_number, line),
+impl<'a> Filing<'a> {
+    // The number that the filing sets in an empty register: the first number, and for 0 the default of its case.
+    fn number_set(self) -> u64
+        ensures { result ≡ number_set (filing self.entry.first_number self.entry.line.now) }
+    {
+        if self.first_number == 0 {
+            let year = split::number_at(self.line, COMMENCEMENT_AT) / YEAR_UNIT;
+            return year as u64 * YEAR_NUMBERS + 1;
+        }
+        self.first_number as u64
+    }
+
+    // The number given behind the last line, and where there is none the one that the filing sets.
+    fn number_given(self, last: Option<u32>) -> u64
+        ensures { result ≡ number_from (next_after last) (filing self.entry.first_number self.entry.line.now) }
+    {
+        match last {
+            Some(number) => checking::following_number(number),
+            None => self.number_set(),
+        }
     }
 }
 
@@ -56,17 +66,16 @@ fn enter(
     register: &mut [u8],
     used: usize,
     last: Option<u32>,
-    first_number: u32,
-    line: &[u8],
+    case: Filing,
     quote: Granted,
 ) -> Result<Entered, Refusal>
-    requires { Known (lent register.old used) (scanned_as (Ok last)) × (refusal_of line.now ≡ 0) × (as_quote quote ≡ quote_of line.now) }
-    ensures { EnteredAs (lent register.old used) (filing first_number line.now) (next_after last) result register.new }
+    requires { Known (lent register.old used) (scanned_as (Ok last)) × (refusal_of case.line.now ≡ 0) × (as_quote quote ≡ quote_of case.line.now) }
+    ensures { EnteredAs (lent register.old used) (filing case.entry.first_number case.entry.line.now) (next_after last) result register.new }
 {
     if register.len() - used < LINE_LENGTH {
         return Err(Refusal::RegisterFull);
     }
-    let number = number_given(last, first_number, line);
+    let number = case.number_given(last);
     if 4294967296 <= number {
         return Err(Refusal::NumbersUsedUp);
     }
@@ -83,15 +92,14 @@ fn file_known(
     register: &mut [u8],
     used: usize,
     known: Result<Option<u32>, Fault>,
-    first_number: u32,
-    line: &[u8],
+    case: Filing,
 ) -> Result<Entered, Refusal>
     requires { Known (lent register.old used) (scanned_as known) }
-    ensures { EnteredAs (lent register.old used) (filing first_number line.now) (scanned_as known).next result register.new }
+    ensures { EnteredAs (lent register.old used) (filing case.entry.first_number case.entry.line.now) (scanned_as known).next result register.new }
 {
-    let quote = split::quote(line)?;
+    let quote = split::quote(case.line)?;
     let last = known?;
-    enter(register, used, last, first_number, line, quote)
+    enter(register, used, last, case, quote)
 }
 
 // Files a case: the lowest of the refusals that apply, or the used length past the new line. The register is checked for an
@@ -107,7 +115,8 @@ pub fn file(
 {
     let quote = split::quote(line)?;
     let last = checking::scan(register, used)?;
-    let entered = enter(register, used, last, first_number, line, quote)?;
+    let case = Filing { first_number, line };
+    let entered = enter(register, used, last, case, quote)?;
     Ok(entered.used)
 }
 
@@ -125,10 +134,10 @@ pub fn file_lines(
     let mut known = checking::scan(register, used);
     let mut filled = used;
     let mut count = 0;
-    let mut at = 0;
-    while at < lines.len() {
-        let end = text::line_end(lines, at);
-        let filed = file_known(register, filled, known, first_number, &lines[at..end]);
+    for line in Lines::of(lines) {
+        let case = Filing { first_number, line };
+        let filed = file_known(register, filled, known, case);
+        // By the index: what the contract of `get_mut` says of the slice is its length alone.
         if count < refusals.len() {
             refusals[count] = refusals::number_of(&filed);
         }
@@ -137,7 +146,6 @@ pub fn file_lines(
             known = Ok(Some(entered.number));
         }
         count += 1;
-        at = end + 1;
     }
     FiledLines {
         used: filled,

@@ -1,33 +1,30 @@
 -- `file_lines` keeps that the lines passed have been filed (`Passed`), so that at the text's end all are.
-use Rattle.std.specs.Prelude.{Ok}
+use Rattle.std.specs.Prelude.{length, Ok}
 use mathlib.Core.Path.{◌≡◌, refl, sym, ◌∙◌, ap}
 use native.Mathlib.Omega.{arith}
 use borrow.Author.Rules.{rules}
-use Rattle.register.specs.Answers.{Filed}
 use Rattle.refusals.proofs.NumbersLaws.{number_positive}
-use Rattle.register.specs.Scan.{scanned_as, entered_as}
+use Rattle.register.specs.Answers.{Filed}
 use Rattle.register.specs.Check.{following}
+use Rattle.register.specs.Scan.{scanned_as, entered_as, lines_left}
 use Rattle.register.proofs.TextLaws.{refusals_next, refusals_past}
-use Rattle.register.proofs.FileLoop.{scan_known, same_refusal, granted_next, refused_next, passed_none, passed_size, passed_all, passed_next}
+use Rattle.register.proofs.FileLoop.{scan_known, same_refusal, granted_next, refused_next, passed_none, passed_few, passed_all, passed_next}
 use Rattle.register.proofs.filing.file_lines.Goals as goal
 use Rattle.register.proofs.filing.file_lines.Goals.{else-count-refusals, then-count-refusals, in-Ok, in_default}
 
-pub loop-at-init : goal.loop-at-init
-loop-at-init c = (omega arith, omega arith, refl, passed_none _ _ _ _ _ (scan_known c.scan-known.ensures))
+pub loop-line-init : goal.loop-line-init
+loop-line-init c = (refl, passed_none _ _ _ _ _ (scan_known c.scan-known.ensures) _ (search rules))
 
-pub file_known-filed-requires : goal.file_known-filed-requires
-file_known-filed-requires c = c.loop-at.invariant.3.known
+pub overflow_add-count : goal.overflow_add-count
+overflow_add-count c =
+    omega (arith, ap length c.in-Some.ensures.steps, passed_few c.loop-line.invariant.1)
 
-pub loop-at-preserved : goal.loop-at-preserved
-loop-at-preserved c =
-    let l = c.loop-at in
+pub loop-line-preserved : goal.loop-line-preserved
+loop-line-preserved c =
     let filed = c.file_known-filed in
-    let cut = c.line_end-end in
-    let p = l.invariant.3 in (
+    let p = c.loop-line.invariant.1 in (
       search rules,
-      omega (arith, cut.ensures.after),
-      search rules,
-      passed_next p cut.result c.loop-at-test.true cut.ensures _ _ _ _ _ filed.ensures.bytes
+      passed_next p c.in-Some.line.now (lines_left c.next.new.self) c.in-Some.ensures.steps _ _ _ _ _ filed.ensures.bytes
           (elim c.match-filed.branch [
             | in-Ok w ↦
                 let granted : filed.result ≡ Ok w.in-Ok.entered = w.in-Ok.is in
@@ -48,8 +45,5 @@ loop-at-preserved c =
           refl,
     )
 
-pub shape_of-refusals : goal.shape_of-refusals
-shape_of-refusals c = passed_size c.loop-at.invariant.3
-
 pub returns : goal.returns
-returns c = passed_all c.loop-at.invariant.3 c.loop-at-test.false
+returns c = passed_all c.loop-line.invariant.1 c.in-None.ensures.steps.0
