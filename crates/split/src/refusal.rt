@@ -27,7 +27,8 @@ pub fn has_bad_length(characters: usize, n: u8) -> bool
     !(counted & ((characters == wanted) | (characters == wanted + frame::ALLOWANCE_USED_LENGTH)))
 }
 
-// Whether one of two dates is not in the calendar.
+// Whether one of two dates is not in the calendar. Inlined, since calls of it cost a refused quote 5 %.
+#[inline(always)]
 fn is_undated(first: Date, second: Date) -> bool
     ensures { result ≡ not (in_calendar first) || not (in_calendar second) }
 {
