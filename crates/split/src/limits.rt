@@ -4,7 +4,7 @@ ghost use Rattle.factors.specs.Effective.{FactorRange};
 ghost use Rattle.split.specs.Refusal.{age_of};
 ghost use Rattle.split.specs.Benefits.{worked_pension, worked_terms, limited_lump, quarter_lump, cap_of};
 ghost use Rattle.split.specs.Limits.{rounded_up, price_of};
-ghost use Rattle.split.specs.Working.{paid_thousandths, AcceptedIn, multiple_benefit, increase_of, no_row, row_of};
+ghost use Rattle.split.specs.Working.{paid_thousandths, AcceptedIn, multiple_factor, increase_of, no_row, row_of};
 
 use crate::basis::Basis;
 use crate::case::Pension;
@@ -31,6 +31,16 @@ pub struct PensionRow {
     pub waiting: bool,
 }
 
+// The exchange of a pension for a lump: what is paid of the pension, and E. Their ranges are kept here and not by Factor, since
+// effective_factor gives one for any terms.
+#[derive(Clone, Copy)]
+struct Exchange {
+    pension: YearlyPence,
+    factor: Factor,
+    ghost small: { pension.0 ≤ 50000000 },
+    ghost ranged: { FactorRange factor },
+}
+
 // Whether the two-and-a-quarter cap applies.
 fn is_limited(p: Pension) -> bool
     ensures { result ≡ limited_lump p }
@@ -41,25 +51,6 @@ fn is_limited(p: Pension) -> bool
     (first | second) & (((300 <= months) & (months <= 359)) & (p.lift == 0))
 }
 
-// A quarter of the pension, as a lump. The range of E is asked for here, and is no invariant of Factor, since effective_factor gives one
-// for any terms.
-fn quarter_lump(pension: YearlyPence, e: Factor) -> LumpPence
-    requires { (pension.0 ≤ 50000000) × FactorRange e }
-    ensures { (result.0 ≡ quarter_lump pension.0 e) × (result.0 ≤ 1000000000) }
-{
-    LumpPence((pension.0 as u64 * e.top / (4 * e.bottom)) as u32)
-}
-
-// The cap of a pension. Ready values are chosen: a branch on whether the cap applies can't be foreseen.
-fn cap_of(limited: bool, pension: YearlyPence, e: Factor) -> LumpPence
-    requires { (pension.0 ≤ 50000000) × FactorRange e }
-    ensures { result.0 ≡ cap_of limited pension.0 e }
-{
-    let quarter = quarter_lump(pension, e);
-    let lower = quarter.0.min(9 * pension.0 / 4);
-    LumpPence(if limited { lower } else { quarter.0 })
-}
-
 // A quotient rounded up to a whole number.
 fn rounded_up(x: u64, y: u64) -> u64
     requires { (0 < y) × (x + y < 18446744073709551616) }
@@ -68,12 +59,31 @@ fn rounded_up(x: u64, y: u64) -> u64
     (x + (y - 1)) / y
 }
 
-// The price of one penny of lump, in billionths.
-fn price_of(e: Factor) -> u64
-    requires { FactorRange e }
-    ensures { result ≡ price_of e }
-{
-    3000000000 + rounded_up(20000000000 * e.bottom, e.top)
+impl Exchange {
+    // A quarter of the pension, as a lump.
+    fn quarter_lump(self) -> LumpPence
+        ensures { (result.0 ≡ quarter_lump self.pension.0 self.factor) × (result.0 ≤ 1000000000) }
+    {
+        let e = self.factor;
+        LumpPence((self.pension.0 as u64 * e.top / (4 * e.bottom)) as u32)
+    }
+
+    // The cap. Ready values are chosen: a branch on whether the second cap applies can't be foreseen.
+    fn cap(self, limited: bool) -> LumpPence
+        ensures { result.0 ≡ cap_of limited self.pension.0 self.factor }
+    {
+        let quarter = self.quarter_lump();
+        let lower = quarter.0.min(9 * self.pension.0 / 4);
+        LumpPence(if limited { lower } else { quarter.0 })
+    }
+
+    // The price of one penny of lump, in billionths.
+    fn price(self) -> u64
+        ensures { result ≡ price_of self.factor }
+    {
+        let e = self.factor;
+        3000000000 + rounded_up(20000000000 * e.bottom, e.top)
+    }
 }
 
 // The increase that gives a second instalment, which only kind 2 has.
@@ -129,19 +139,14 @@ impl Basis {
         }
     }
 
-    // An accepted pension as the limits see it, with E as one top over one bottom whatever the kind.
-    fn benefit_of(self, p: Pension) -> Benefit
+    // What is paid of an accepted pension, and E as one top over one bottom whatever the kind.
+    fn exchange_of(self, p: Pension) -> Exchange
         requires { AcceptedIn self.head p }
-        ensures { result ≡ multiple_benefit self.head p }
+        ensures { (result.pension.0 ≡ worked_pension self.head p) × (result.factor ≡ multiple_factor self.head p) }
     {
         let pension = self.worked_pension(p);
         let factor = factors::effective::effective_factor(p.kind, self.worked_terms(p.terms));
-        let cap = cap_of(is_limited(p), pension, factor);
-        Benefit {
-            pension,
-            factor,
-            cap,
-        }
+        Exchange { pension, factor }
     }
 
     // The row of an accepted pension before its turn.
@@ -149,10 +154,15 @@ impl Basis {
         requires { AcceptedIn self.head p }
         ensures { result ≡ row_of self.head p }
     {
-        let benefit = self.benefit_of(p);
+        let exchange = self.exchange_of(p);
+        let cap = exchange.cap(is_limited(p));
         PensionRow {
-            benefit,
-            price: price_of(benefit.factor),
+            benefit: Benefit {
+                pension: exchange.pension,
+                factor: exchange.factor,
+                cap,
+            },
+            price: exchange.price(),
             lump: LumpPence(0),
             increase: increase_of(p),
             waiting: true,

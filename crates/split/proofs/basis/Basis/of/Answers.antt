@@ -15,6 +15,3 @@ invariant_of-result-clause-aged c = c.months_between-age.ensures
 pub invariant_of-result-clause-looked_up : goal.invariant_of-result-clause-looked_up
 unfolding age_of
 invariant_of-result-clause-looked_up c = c.table_factor-found.ensures ∙ ap table1 c.months_between-age.ensures
-
-pub invariant_of-result-clause-payable : goal.invariant_of-result-clause-payable
-invariant_of-result-clause-payable c = c.paid_thousandths-paid.ensures

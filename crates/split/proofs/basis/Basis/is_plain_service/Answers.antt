@@ -2,7 +2,7 @@
 use mathlib.Core.Bool.{false≢true}
 use mathlib.Core.Path.{sym, ◌∙◌}
 use Rattle.split.proofs.ConditionsLaws.{service_plain}
-use Rattle.split.proofs.refusal.is_plain_service.Goals as goal
+use Rattle.split.proofs.basis.Basis.is_plain_service.Goals as goal
 
 pub returns-then-not-is_common_date : goal.returns-then-not-is_common_date
 returns-then-not-is_common_date c e = absurd (false≢true e)

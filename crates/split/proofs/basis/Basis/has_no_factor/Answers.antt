@@ -1,6 +1,6 @@
 -- `has_no_factor` is the definition `no_factor`, by what its calls promise.
 use Rattle.split.specs.Refusal.{no_factor}
-use Rattle.split.proofs.refusal.has_no_factor.Goals as goal
+use Rattle.split.proofs.basis.Basis.has_no_factor.Goals as goal
 
 pub returns : goal.returns
 unfolding no_factor

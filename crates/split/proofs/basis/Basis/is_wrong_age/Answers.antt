@@ -1,6 +1,6 @@
 -- `is_wrong_age` is the definition `wrong_age`, test by test.
 use Rattle.split.specs.Refusal.{wrong_age}
-use Rattle.split.proofs.refusal.is_wrong_age.Goals as goal
+use Rattle.split.proofs.basis.Basis.is_wrong_age.Goals as goal
 
 pub returns : goal.returns
 unfolding wrong_age

@@ -1,7 +1,7 @@
 -- `is_disordered` is the definition `disordered`, by what its calls promise.
 use mathlib.Core.Bool.{not, ◌||◌}
 use Rattle.split.specs.Refusal.{disordered}
-use Rattle.split.proofs.refusal.is_disordered.Goals as goal
+use Rattle.split.proofs.basis.Basis.is_disordered.Goals as goal
 
 pub returns : goal.returns
 unfolding disordered

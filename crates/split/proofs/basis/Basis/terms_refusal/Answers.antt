@@ -1,5 +1,5 @@
 -- `terms_refusal`: the first test that passes is the lowest condition.
-use Rattle.split.proofs.refusal.terms_refusal.Goals as goal
+use Rattle.split.proofs.basis.Basis.terms_refusal.Goals as goal
 
 pub returns-then-is_unlisted : goal.returns-then-is_unlisted
 returns-then-is_unlisted c = simp (← c.is_unlisted.ensures, c.if-is_unlisted.true)

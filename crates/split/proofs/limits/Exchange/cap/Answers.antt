@@ -1,6 +1,6 @@
--- `cap_of` is the definition `cap_of`, by whether the second cap applies.
+-- `cap` is the definition `cap_of`, by whether the second cap applies.
 use Rattle.split.specs.Benefits.{cap_of}
-use Rattle.split.proofs.limits.cap_of.Goals as goal
+use Rattle.split.proofs.limits.Exchange.cap.Goals as goal
 
 pub returns-then-limited : goal.returns-then-limited
 unfolding cap_of

@@ -4,18 +4,18 @@ use mathlib.Core.Path.{refl}
 use native.Mathlib.Omega.{arith}
 use Rattle.split.specs.Benefits.{quarter_lump}
 use Rattle.split.proofs.BenefitsLaws.{quarter_at_most}
-use Rattle.split.proofs.limits.quarter_lump.Goals as goal
+use Rattle.split.proofs.limits.Exchange.quarter_lump.Goals as goal
 
 pub overflow_mul-result : goal.overflow_mul-result
 overflow_mul-result c =
-    omega (arith, mul-le-mul c.requires.0 c.requires.1.top_high)
+    omega (arith, mul-le-mul c.args.self.small c.args.self.ranged.top_high)
 
 pub overflow_cast-result-2 : goal.overflow_cast-result-2
 unfolding quarter_lump
 overflow_cast-result-2 c =
-    omega (arith, quarter_at_most c.args.pension.0 c.args.e c.requires.1)
+    omega (arith, quarter_at_most c.args.self.pension.0 c.args.self.factor c.args.self.ranged)
 
 pub returns : goal.returns
 unfolding quarter_lump
 returns c =
-    (refl, omega (arith, quarter_at_most c.args.pension.0 c.args.e c.requires.1))
+    (refl, omega (arith, quarter_at_most c.args.self.pension.0 c.args.self.factor c.args.self.ranged))
