@@ -63,8 +63,9 @@ fn search_member(lines: &[u8], member: u32) -> Searched
     let count = lines.len() / LINE_LENGTH;
     for (newer, line) in lines.rchunks_exact(LINE_LENGTH).enumerate() {
         if has_figure(line, &digits) {
+            let place = count - 1 - newer;
             return Searched {
-                place: Some(count - 1 - newer),
+                place: Some(place),
                 compared: with_found(newer),
             };
         }

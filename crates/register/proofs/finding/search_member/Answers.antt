@@ -1,12 +1,12 @@
 -- `search_member` gives the place of the member's last line and how many lines it compared: what all lines answer, those answer that
 -- the chunks from the back have left.
-use Prim.Native.Nat.{◌/◌}
-use mathlib.Core.Path.{sym, ◌∙◌, ap}
+use Prim.Native.Nat.{suc, ◌+◌, ◌-◌, ◌/◌, ◌<◌}
+use mathlib.Core.Path.{◌≡◌, sym, ◌∙◌, ap}
 use native.Mathlib.Omega.{arith}
 use lib.ListN.{length}
 use Rattle.std.proofs.Common.{rules}
 use Rattle.register.specs.Line.{text_length}
-use Rattle.register.specs.Layout.{line_layout, line_length}
+use Rattle.register.specs.Layout.{line_layout, line_length, cut_lines}
 use Rattle.register.specs.Find.{with_found}
 use Rattle.register.proofs.LayoutLaws.{cut_count}
 use Rattle.register.proofs.CheckLaws.{number_inside}
@@ -36,16 +36,16 @@ has_figure-requires c =
       member_digits _ _ c.write_figure.ensures,
     )
 
-pub overflow_sub-result : goal.overflow_sub-result
+pub overflow_sub-place : goal.overflow_sub-place
 unfolding text_length
-overflow_sub-result c =
+overflow_sub-place c =
     let l = c.loop-newer in
     let step = c.in-Some.ensures.steps in
     omega (arith, back_left line_layout _ _ _ _ _ l.invariant.3 _ _ step.0.2.0 (step.0.2.1 ∙ l.invariant.2))
 
-pub overflow_sub-result-then-has_figure : goal.overflow_sub-result-then-has_figure
+pub overflow_sub-place-then-has_figure : goal.overflow_sub-place-then-has_figure
 unfolding text_length
-overflow_sub-result-then-has_figure c =
+overflow_sub-place-then-has_figure c =
     let l = c.loop-newer in
     let step = c.in-Some.ensures.steps in
     omega (arith, step.1, back_left line_layout _ _ _ _ _ l.invariant.3 _ _ step.0.2.0 (step.0.2.1 ∙ l.invariant.2))
@@ -56,13 +56,14 @@ returns-then-has_figure c =
     let l = c.loop-newer in
     let step = c.in-Some.ensures.steps in
     let size = step.0.2.1 ∙ l.invariant.2 in
+    let n = length c.args.lines.now / line_length in
+    let newer = l.newer-iterator.count in
+    let left : newer < n = back_left line_layout _ _ _ _ _ l.invariant.3 _ _ step.0.2.0 size in
+    let all : n - 1 - newer + suc newer ≡ length (cut_lines line_layout n c.args.lines.now) =
+    omega (arith, left, cut_count line_layout n c.args.lines.now) in
     let told = member_told _ _ c.write_figure.ensures _ _ (omega arith) c.has_figure.ensures ∙ c.if-has_figure.true in
     let last = back_hit line_layout _ _ _ _ _ l.invariant.3 _ _ step.0.2.0 size told in
-    let left = back_left line_layout _ _ _ _ _ l.invariant.3 _ _ step.0.2.0 size in
-    let count = cut_count line_layout (length c.args.lines.now / line_length) c.args.lines.now in (
-      rw step.1 last,
-      c.with_found.ensures ∙ ap with_found step.1 ∙ counted_hit _ _ _ _ last (omega (arith, left, count)),
-    )
+    (rw step.1 last, c.with_found.ensures ∙ ap with_found step.1 ∙ counted_hit _ _ _ newer last all)
 
 pub loop-newer-preserved : goal.loop-newer-preserved
 unfolding text_length
