@@ -1,29 +1,32 @@
 -- Finding in the code's numbers, for any layout: from the last line down, the lines before a place and the line there make one
--- line more, and the last that passes a test is that one, or the last before it; the lines compared till then; figures of
--- lines read in the register; and what a find answers by a place. Assumes nothing.
-use Prim.Native.Nat.{ℕ, suc, ◌+◌, ◌-◌, ◌*◌, ◌/◌, ◌≤◌, ◌<◌}
+-- line more, and the last that passes a test is that one, or the last before it; the chunks from the back are those lines; the
+-- lines compared till then; figures of lines; and what a find answers by a place. Assumes nothing.
+use Prim.Native.Nat.{ℕ, suc, ◌+◌, ◌-◌, ◌*◌, ◌/◌, ◌%◌, ◌≤◌, ◌<◌}
 use mathlib.Core.Bool.{Bool, true, false, or-true, or-false}
-use mathlib.Core.List.{List, [], ◌∷◌, ◌++◌, append-nil}
+use mathlib.Core.List.{List, [], ◌∷◌, ◌++◌, append_assoc, append-nil}
 use Rattle.std.specs.Prelude.{Option, Some, None, IfSome}
-use mathlib.Core.Path.{◌≡◌, sym, ◌∙◌, ap}
-use native.Mathlib.Nat.{zero-add, zero-mul, div-add-mod', mul-le-mul_right}
+use mathlib.Core.Path.{◌≡◌, refl, sym, ◌∙◌, ap}
+use native.Mathlib.Nat.{zero-add, zero-mul, suc-mul, div-add-mod', mul-le-mul_right}
+use native.Mathlib.Decide.{dec_lt}
 use native.Mathlib.Omega.{arith}
 use lib.Dec.{eqb}
-use lib.ListN.{length, get_or}
+use borrow.Author.Tests.{lt-ltb}
+use lib.ListN.{length, get_or, take, length-append}
+use lib.Seq.{take_at, drop_at, length-take-le}
 use Rattle.calendar.specs.Tests.{any}
 use Rattle.calendar.proofs.TestsLaws.{any_snoc}
 use Rattle.split.specs.Frame.{is_no_digit, number_at, hex_text}
 use Rattle.split.proofs.FrameLaws.{digit_known}
-use Rattle.split.proofs.HexLaws.{hex_length, hex_good, hex_back, number_same, number_other, number_part}
-use Rattle.register.specs.Line.{figure_width, member_place, number_in, member_in}
+use Rattle.split.proofs.HexLaws.{hex_length, hex_good, hex_back, number_same, number_other}
+use Rattle.register.specs.Line.{figure_width, member_place, number_in}
 use Rattle.register.specs.Answers.{Checked, Located}
-use Rattle.register.specs.Layout.{Register, Layout, length_of, cut_lines, used_lines_by}
-use Rattle.register.specs.Check.{check_lines_by, check_by}
+use Rattle.register.specs.Layout.{Register, Layout, lent, length_of, cut_lines, used_lines_by}
+use Rattle.register.specs.Check.{bad_at, check_lines_by, check_by}
 use Rattle.register.specs.Find.{last_place, has_member, locate_by, newer_lines, with_found, lines_compared, locate_member_by}
 use Rattle.register.specs.Scan.{DigitsAt, FoundAt, placed_by}
-use Rattle.register.proofs.LayoutLaws.{line_at, cut_count, cut_at, cut_snoc}
+use Rattle.register.proofs.LayoutLaws.{line_at, cut_count, cut_at, cut_snoc, used_alone}
 use Rattle.register.proofs.CheckLaws.{sound_good, check_sound}
-use Rattle.register.proofs.CheckLoop.{line_number, good_digits}
+use Rattle.register.proofs.CheckLoop.{line_number}
 use Rattle.register.proofs.FindLaws.{last_newer, place_snoc, locate_unsound, locate_absent, locate_found, compared_unsound, compared_sound}
 
 -- what n lines answer, the first i of them answer
@@ -80,22 +83,108 @@ module _ (digits : List ℕ) (member : ℕ) (written : digits ≡ hex_text figur
   member_back : member < 4294967296 → number_at digits 0 figure_width ≡ member
   member_back low = rw (written, ← append-nil (hex_text figure_width member)) (hex_back [] [] figure_width member low)
 
-  pub member_told : (y : Layout) (s : List ℕ) (at : ℕ) (told : Bool) → member_place + figure_width ≤ y.text → member < 4294967296
-      → told ≡ eqb (number_at s (at + member_place) figure_width) (number_at digits 0 figure_width)
-      → has_member member (line_at y s at) ≡ told
-  unfolding member_in
-  member_told y s at told inside low e =
-      ap (λ (x : ℕ). eqb x member) (number_part s (length_of y) at member_place figure_width (omega arith))
-      ∙ ap (eqb (number_at s (at + member_place) figure_width)) (sym (member_back low)) ∙ sym e
+  pub member_told : (l : List ℕ) (told : Bool) → member < 4294967296 → told ≡ has_member (number_at digits 0 figure_width) l
+      → has_member member l ≡ told
+  member_told l told low e = ap (λ (x : ℕ). has_member x l) (sym (member_back low)) ∙ sym e
+
+-- a character that is good before the newline's place is a digit
+digit_good : (y : Layout) (l : List ℕ) (place : ℕ) → place < y.text → bad_at y l place ≡ false → is_no_digit (get_or l place 0) ≡ false
+unfolding bad_at
+digit_good y l place h good = simp (lt-ltb place y.text h) at good
 
 -- the member's characters in a line among sound ones are digits
 pub line_digits : (y : Layout) (wide : figure_width ≤ y.text) (s : List ℕ) (n k : ℕ) → member_place + figure_width ≤ y.text
-    → (check_lines_by y 0 0 (cut_lines y n s)).refusal ≡ 0 → k < n → DigitsAt s (k * length_of y + member_place) figure_width
-line_digits y wide s n k inside sound h =
-    good_digits y wide s (k * length_of y) member_place figure_width inside
-    (λ j i. rw (cut_at y n s k h) at (sound_good y wide (cut_lines y n s) 0 0 k sound (omega (arith, cut_count y n s))) j (omega arith))
+    → (check_lines_by y 0 0 (cut_lines y n s)).refusal ≡ 0 → k < n → DigitsAt (line_at y s (k * length_of y)) member_place figure_width
+line_digits y wide s n k inside sound h j i =
+    digit_good y (line_at y s (k * length_of y)) (member_place + j) (omega arith)
+    (rw (cut_at y n s k h) at (sound_good y wide (cut_lines y n s) 0 0 k sound (omega (arith, cut_count y n s))) (member_place + j) (omega arith))
 
--- a figure of a register compared with digits from the last on: what all tell, the first i tell
+-- what n lines answer, all n answer
+same_all : (y : Layout) (f : List ℕ → Bool) (s : List ℕ) (n : ℕ) → Same y f s n n
+same_all y f s n = record { within = omega arith; place = refl; some = refl }
+
+-- what the chunks from the back leave: a part at the front, of as many lines as are left, and what n lines answer its lines answer
+pub record Back (y : Layout) (f : List ℕ → Bool) (s : List ℕ) (n newer : ℕ) (rest : List ℕ) : Type 0 where
+  pub after : List ℕ
+  pub whole : s ≡ rest ++ after
+  pub size : length rest ≡ (n - newer) * length_of y
+  pub same : Same y f s n (n - newer)
+
+-- all are left where no part of a line stands before them
+pub back_first : (y : Layout) (f : List ℕ → Bool) (s part rest : List ℕ) → s ≡ part ++ rest → length part ≡ length s % length_of y
+    → length s % length_of y ≡ 0 → Back y f s (length s / length_of y) 0 rest
+back_first y f s [] rest e few none =
+    let all : length s / length_of y - 0 ≡ length s / length_of y = omega arith in
+    record {
+      after = [];
+      whole = e ∙ sym (append-nil rest);
+      size =
+          ap length (sym e) ∙ sym (omega (arith, div-add-mod' (length s) (length_of y), none))
+          ∙ ap (λ (k : ℕ). k * length_of y) (sym all);
+      same = rw all (same_all y f s (length s / length_of y));
+    }
+back_first y f s (c ∷ part) rest e few none = absurd (omega arith)
+
+module _ (y : Layout) (f : List ℕ → Bool) (s : List ℕ) (n newer : ℕ) (rest : List ℕ) (back : Back y f s n newer rest) where
+  -- the last chunk is the last line left
+  module _ (more line : List ℕ) (e : rest ≡ more ++ line) (size : length line ≡ length_of y) where
+    pub back_left : newer < n
+    back_left = elim (dec_lt newer n) [
+      | yes h ↦ h
+      | no h ↦
+          let none : n - newer ≡ 0 = omega arith in
+          absurd (omega (arith, back.size, ap (λ (k : ℕ). k * length_of y) none, zero-mul (length_of y), ap length e, length-append more line))
+    ]
+
+    -- it stands behind the lines before it
+    back_before : length more ≡ (n - 1 - newer) * length_of y
+    back_before =
+        let next : n - newer ≡ suc (n - 1 - newer) = omega (arith, back_left) in
+        omega (arith, back.size, ap (λ (k : ℕ). k * length_of y) next, suc-mul (n - 1 - newer) (length_of y), ap length e, length-append more line)
+
+    back_whole : s ≡ more ++ (line ++ back.after)
+    back_whole = back.whole ∙ ap (λ (l : List ℕ). l ++ back.after) e ∙ append_assoc more line back.after
+
+    back_line : line_at y s ((n - 1 - newer) * length_of y) ≡ line
+    back_line =
+        ap (λ (l : List ℕ). line_at y l ((n - 1 - newer) * length_of y)) back_whole
+        ∙ ap (take (length_of y)) (drop_at more (line ++ back.after) ((n - 1 - newer) * length_of y) back_before)
+        ∙ take_at line back.after (length_of y) size
+
+    -- its member's characters are digits where the lines are sound
+    pub back_digits : figure_width ≤ y.text → member_place + figure_width ≤ y.text → (check_lines_by y 0 0 (cut_lines y n s)).refusal ≡ 0
+        → DigitsAt line member_place figure_width
+    back_digits wide inside sound = rw back_line at (line_digits y wide s n (n - 1 - newer) inside sound (omega (arith, back_left)))
+
+    -- what it is told to answer, all lines answer, or the lines before it
+    last : n - newer - 1 ≡ n - 1 - newer
+    last = omega arith
+
+    pub back_hit : f line ≡ true → FoundAt f (cut_lines y n s) (Some (n - 1 - newer))
+    back_hit t =
+        rw last at (same_hit y f s n (n - newer) back.same (omega (arith, back_left)) (rw last (ap f back_line ∙ t)))
+
+    pub back_miss : f line ≡ false → Back y f s n (newer + 1) more
+    back_miss t =
+        let less : n - 1 - newer ≡ n - (newer + 1) = omega arith in
+        let before = same_miss y f s n (n - newer) back.same (omega (arith, back_left)) (rw last (ap f back_line ∙ t)) in
+        record {
+          after = line ++ back.after;
+          whole = back_whole;
+          size = back_before ∙ ap (λ (k : ℕ). k * length_of y) less;
+          same = rw less at (rw last at before);
+        }
+
+  -- none is left where they are shorter than a line
+  pub back_none : length rest < length_of y → any f (cut_lines y n s) ≡ false
+  back_none few = elim (dec_lt newer n) [
+    | yes h ↦
+        let next : n - newer ≡ suc (n - 1 - newer) = omega arith in
+        absurd (omega (arith, back.size, ap (λ (k : ℕ). k * length_of y) next, suc-mul (n - 1 - newer) (length_of y)))
+    | no h ↦ same_none y f s n (n - newer) back.same (omega arith)
+  ]
+
+-- a figure of a line compared with digits from the last on: what all tell, the first i tell
 module _ (s : List ℕ) (at : ℕ) (t : List ℕ) where
   abbrev pub same_figure : ℕ → Bool
   same_figure i = eqb (number_at s at i) (number_at t 0 i)
@@ -146,6 +235,24 @@ module _ (y : Layout) (r : Register) (checked : Checked) (e : checked ≡ check_
   module _ (good : checked.refusal ≡ 0) where
     pub lines_sound : (r.used ≤ length r.bytes) × ((check_lines_by y 0 0 (used_lines_by y r)).refusal ≡ 0)
     lines_sound = let k = check_sound y r (same_check ∙ good) in (k.0, k.2)
+
+    -- the used part by itself has those lines
+    abbrev alone : List (List ℕ)
+    alone = used_lines_by y (lent (take r.used r.bytes) (length (take r.used r.bytes)))
+
+    pub same_lines : alone ≡ used_lines_by y r
+    same_lines = let k = check_sound y r (same_check ∙ good) in used_alone y r.bytes r.used k.0 k.1
+
+    pub alone_whole : length (take r.used r.bytes) % length_of y ≡ 0
+    alone_whole =
+        let k = check_sound y r (same_check ∙ good) in
+        ap (λ (n : ℕ). n % length_of y) (length-take-le r.used r.bytes k.0) ∙ k.1
+
+    pub alone_sound : (check_lines_by y 0 0 alone).refusal ≡ 0
+    alone_sound = rw same_lines lines_sound.1
+
+    pub found_alone : (f : List ℕ → Bool) (place : Option ℕ) → FoundAt f alone place → FoundAt f (used_lines_by y r) place
+    found_alone f place found = rw same_lines at found
 
     pub answered : (f : List ℕ → Bool) (place : Option ℕ) → FoundAt f (used_lines_by y r) place → locate_by y f r ≡ placed_by y place
     answered f None none = locate_absent y f r (same_check ∙ good) none

@@ -109,3 +109,14 @@ module _ (y : Layout) where
         bytes =
             ap (λ (k : ℕ). bytes_of (cut_lines y (used / length_of y) s) ++ drop k s) (sym n) ∙ cut_back (used / length_of y) s;
       }
+
+  -- and the used part by itself is cut into the same lines
+  pub used_alone : (s : List ℕ) (used : ℕ) → used ≤ length s → used % length_of y ≡ 0
+      → cut_lines y (length (take used s) / length_of y) (take used s) ≡ cut_lines y (used / length_of y) s
+  used_alone s used inside exact =
+      let ls = cut_lines y (used / length_of y) s in
+      let part = used_part s used inside exact in
+      let alone : take used s ≡ bytes_of ls =
+      ap (take used) (sym part.bytes) ∙ take_at (bytes_of ls) (drop used s) used part.size in
+      simp alone
+      (ap (cut_lines y (length (bytes_of ls) / length_of y)) (sym (append-nil (bytes_of ls))) ∙ used_cut ls [] part.whole)

@@ -13,7 +13,7 @@ use Rattle.register.specs.declared.filing.Entered.{Entered}
 use Rattle.register.specs.declared.text.Lines.{Lines}
 use Rattle.register.specs.Answers.{Checked, Located, Filed}
 use Rattle.register.specs.Line.{figure_width}
-use Rattle.register.specs.Layout.{Register, Layout, length_of, used_lines, line_layout}
+use Rattle.register.specs.Layout.{Register, Layout, lent, length_of, used_lines, line_layout}
 use Rattle.register.specs.Check.{following, next_number, check_lines, check_of}
 use Rattle.register.specs.Find.{last_place}
 use Rattle.register.specs.File.{Filing, number_from, file_step}
@@ -49,6 +49,10 @@ pub record Known (r : Register) (k : Scanned) : Type 0 where
 -- n characters from a place on are digits
 abbrev pub DigitsAt : List ℕ → ℕ → ℕ → Type 0
 DigitsAt s at n = (j : ℕ) → j < n → is_no_digit (get_or s (at + j) 0) ≡ false
+
+-- the lines of bytes that are all used
+abbrev pub lines_in : List ℕ → List (List ℕ)
+lines_in s = used_lines (lent s (length s))
 
 -- lines that the check finds sound
 abbrev pub SoundLines : List (List ℕ) → Type 0

@@ -1,36 +1,36 @@
 // Finding a line by its number, and a member's newest line. Each find has two calls: one hands back the line's own bytes, the
 // one beside it the refusal or where they are, and for a member also how many lines were compared.
-ghost use Rattle.std.specs.Prelude.{◌≡◌, ◌+◌, ◌*◌, ◌^◌, ◌≤◌, ◌<◌, eqb, length, take, drop, IfSome};
+ghost use Rattle.std.specs.Prelude.{◌≡◌, ◌+◌, ◌*◌, ◌%◌, ◌^◌, ◌≤◌, ◌<◌, length, take, drop, IfSome};
 ghost use Rattle.split.specs.Frame.{number_at};
-ghost use Rattle.register.specs.Line.{figure_width};
-ghost use Rattle.register.specs.Layout.{lent, line_layout, line_length, cut_lines};
+ghost use Rattle.register.specs.Line.{figure_width, member_place};
+ghost use Rattle.register.specs.Layout.{lent, line_length};
 ghost use Rattle.register.specs.Find.{has_number, has_member, find_line, locate, with_found, lines_compared, locate_member};
 ghost use Rattle.register.specs.Answers.{located_as, located_member_as};
-ghost use Rattle.register.specs.Scan.{DigitsAt, SoundLines, FoundAt, placed};
+ghost use Rattle.register.specs.Scan.{DigitsAt, lines_in, SoundLines, FoundAt, placed};
 
 use crate::answers::{Extent, FoundMember};
 use crate::layout::{FIGURE_WIDTH, LINE_LENGTH, MEMBER_AT};
 use crate::{checking, layout};
 use refusals::Refusal;
 
-// The place of a number among n sound lines, whose numbers rise by one from the first's.
-fn place_of_number(register: &[u8], n: usize, number: u32) -> Option<usize>
-    requires { SoundLines (cut_lines line_layout n register.now) }
-    ensures { FoundAt (has_number number) (cut_lines line_layout n register.now) result }
+// The place of a number among sound lines, whose numbers rise by one from the first's.
+fn place_of_number(lines: &[u8], number: u32) -> Option<usize>
+    requires { SoundLines (lines_in lines.now) }
+    ensures { FoundAt (has_number number) (lines_in lines.now) result }
 {
-    let first = split::number_at(register, 0);
+    let first = split::number_at(lines, 0);
     let place = number.checked_sub(first)? as usize;
-    (place < n).then_some(place)
+    (place < lines.len() / LINE_LENGTH).then_some(place)
 }
 
-// Whether the digits at a place of a register are these. They are compared one by one from the last, where figures differ most: the
-// comparison of slices, which begins with the first, takes three to four times as long.
-fn has_figure(register: &[u8], at: usize, digits: &[u8; FIGURE_WIDTH]) -> bool
-    requires { (at + figure_width ≤ length register.now) × DigitsAt register.now at figure_width × DigitsAt digits.now 0 figure_width }
-    ensures { result ≡ eqb (number_at register.now at figure_width) (number_at digits.now 0 figure_width) }
+// Whether a line's member has these digits. They are compared one by one from the last, where figures differ most: the comparison
+// of slices, which begins with the first, takes three to four times as long.
+fn has_figure(line: &[u8], digits: &[u8; FIGURE_WIDTH]) -> bool
+    requires { (length line.now ≡ line_length) × DigitsAt line.now member_place figure_width × DigitsAt digits.now 0 figure_width }
+    ensures { result ≡ has_member (number_at digits.now 0 figure_width) line.now }
 {
     for i in (0..FIGURE_WIDTH).rev() {
-        if register[at + i] != digits[i] {
+        if line[MEMBER_AT + i] != digits[i] {
             return false;
         }
     }
@@ -52,25 +52,27 @@ fn with_found(newer: usize) -> usize
     newer + 1
 }
 
-// Looks for the last of n sound lines with a member, from the newest back, and counts the lines that it compares.
-fn search_member(register: &[u8], n: usize, member: u32) -> Searched
-    requires { (n * line_length ≤ length register.now) × SoundLines (cut_lines line_layout n register.now) }
-    ensures { FoundAt (has_member member) (cut_lines line_layout n register.now) result.place × (result.compared ≡ lines_compared (has_member member) (cut_lines line_layout n register.now)) }
+// Looks for the last of sound lines with a member, from the newest back, and counts the lines that it compares. `rchunks_exact`
+// begins at the end: `chunks_exact` with `rposition` divides at each line, and takes eight times as long.
+fn search_member(lines: &[u8], member: u32) -> Searched
+    requires { (length lines.now % line_length ≡ 0) × SoundLines (lines_in lines.now) }
+    ensures { FoundAt (has_member member) (lines_in lines.now) result.place × (result.compared ≡ lines_compared (has_member member) (lines_in lines.now)) }
 {
     let mut digits = [0u8; FIGURE_WIDTH];
     layout::write_figure(&mut digits, member);
-    for i in (0..n).rev() {
-        if has_figure(register, i * LINE_LENGTH + MEMBER_AT, &digits) {
-            let compared = with_found(n - 1 - i);
+    let count = lines.len() / LINE_LENGTH;
+    for (newer, line) in lines.rchunks_exact(LINE_LENGTH).enumerate() {
+        if has_figure(line, &digits) {
+            let place = count - 1 - newer;
             return Searched {
-                place: Some(i),
-                compared,
+                place: Some(place),
+                compared: with_found(newer),
             };
         }
     }
     Searched {
         place: None,
-        compared: n,
+        compared: count,
     }
 }
 
@@ -102,7 +104,7 @@ pub fn locate_number(register: &[u8], used: usize, number: u32) -> Result<Extent
     ensures { located_as result ≡ locate (has_number number) (lent register.now used) }
 {
     checking::check(register, used)?;
-    let place = place_of_number(register, used / LINE_LENGTH, number);
+    let place = place_of_number(&register[..used], number);
     line_at(place)
 }
 
@@ -124,7 +126,7 @@ pub fn locate_member(register: &[u8], used: usize, member: u32) -> FoundMember
             compared: 0,
         };
     }
-    let search = search_member(register, used / LINE_LENGTH, member);
+    let search = search_member(&register[..used], member);
     FoundMember {
         line: line_at(search.place),
         compared: search.compared,

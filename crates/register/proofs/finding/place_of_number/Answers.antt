@@ -1,5 +1,5 @@
 -- `place_of_number` gives the number's place: the first line's number begins the register, and sound numbers rise from it by one.
-use Prim.Native.Nat.{ℕ, ◌+◌, ◌≤◌, ◌<◌}
+use Prim.Native.Nat.{ℕ, ◌+◌, ◌/◌, ◌≤◌, ◌<◌}
 use mathlib.Core.Bool.{Bool, false}
 use mathlib.Core.List.{List, []}
 use mathlib.Core.Path.{◌≡◌, sym, ◌∙◌}
@@ -11,9 +11,9 @@ use borrow.Author.Tests.{lt-ltb, le-ltb}
 use Rattle.calendar.specs.Tests.{any}
 use Rattle.std.specs.Bool.{then_some}
 use Rattle.std.specs.Prelude.{Option, Some}
-use Rattle.register.specs.Line.{number_in}
-use Rattle.register.specs.Layout.{line_layout, cut_lines}
-use Rattle.register.specs.Scan.{FoundAt}
+use Rattle.register.specs.Line.{text_length, number_in}
+use Rattle.register.specs.Layout.{line_layout, line_length}
+use Rattle.register.specs.Scan.{lines_in, FoundAt}
 use Rattle.register.proofs.LayoutLaws.{cut_count}
 use Rattle.register.proofs.CheckLaws.{number_inside}
 use Rattle.register.proofs.FindLaws.{number_before, number_past, number_found}
@@ -29,9 +29,9 @@ by_place f ls n place o e found absent =
       | no h ↦ rw e (simp (le-ltb place n (omega arith)) (absent (omega arith)))
     ]
 
-begins : (c : After-number_at-first) → 0 < length (cut_lines line_layout c.args.n c.args.register.now)
-    → number_in (get_or (cut_lines line_layout c.args.n c.args.register.now) 0 []) ≡ c.number_at-first.result
-begins c h = first_line_number line_layout number_inside c.args.register.now c.args.n h ∙ sym c.number_at-first.ensures
+begins : (c : After-number_at-first) → 0 < length (lines_in c.args.lines.now)
+    → number_in (get_or (lines_in c.args.lines.now) 0 []) ≡ c.number_at-first.result
+begins c h = first_line_number line_layout number_inside c.args.lines.now (length c.args.lines.now / line_length) h ∙ sym c.number_at-first.ensures
 
 pub returns-in_err-place : goal.returns-in_err-place
 returns-in_err-place c =
@@ -40,11 +40,13 @@ returns-in_err-place c =
     (omega (arith, c.in_err-place.ensures)))
 
 pub returns : goal.returns
+unfolding text_length
 returns c =
     let place = c.in_ok-place.ensures in
     let first = begins ((goal.at.returns c).After-number_at-first) in
     let above : c.number_at-first.result + c.in_ok-place.field-0 ≡ c.args.number = omega (arith, place.0, place.1) in
-    let count = cut_count line_layout c.args.n c.args.register.now in
-    by_place _ _ c.args.n c.in_ok-place.field-0 _ c.then_some.ensures
+    let n = length c.args.lines.now / line_length in
+    let count = cut_count line_layout n c.args.lines.now in
+    by_place _ _ n c.in_ok-place.field-0 _ c.then_some.ensures
     (λ h. number_found line_layout number_inside _ c.requires _ _ first _ above (omega arith))
     (λ h. number_past line_layout number_inside _ c.requires _ _ first _ above (omega arith))
