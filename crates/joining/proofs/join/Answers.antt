@@ -27,24 +27,8 @@ returns-in_err-check-2 c =
     (same_step _ _ _ _
     (second_unsound _ _ _ (told _ _ c.in_ok-check.ensures) (λ z. omega (arith, told _ _ c.in_err-check-2.ensures, z))) (refl, refl))
 
-pub join_ordered-requires : goal.join_ordered-requires
-join_ordered-requires c =
-    record {
-      low_sound = told _ _ c.in_ok-check-2.ensures;
-      high_sound = told _ _ c.in_ok-check.ensures;
-      order = omega (arith, c.first_number.ensures, c.first_number-2.ensures, c.if-first_number.true);
-    }
-
 pub returns-then-first_number : goal.returns-then-first_number
 returns-then-first_number c = same_step _ _ _ _ (join_swapped _ _ _) c.join_ordered.ensures
-
-pub join_ordered-requires-2 : goal.join_ordered-requires-2
-join_ordered-requires-2 c =
-    record {
-      low_sound = told _ _ c.in_ok-check.ensures;
-      high_sound = told _ _ c.in_ok-check-2.ensures;
-      order = omega (arith, c.first_number.ensures, c.first_number-2.ensures, c.if-first_number.false);
-    }
 
 pub returns : goal.returns
 returns c = c.join_ordered-2.ensures

@@ -47,10 +47,6 @@ measured : (c : Else-has_bad_length)
     c.read_head-head.result.value.count ≡ false
 measured c = sym c.has_bad_length.ensures ∙ c.if-has_bad_length.false
 
-pub case_quote-requires : goal.case_quote-requires
-case_quote-requires c =
-    (c.read_head-head.ensures.next, measured ((goal.at.case_quote-requires c).Else-has_bad_length))
-
 pub returns : goal.returns
 returns c =
     quote_read _ _ _ (headed ((goal.at.returns c).After-read_head-head)) (refused_case _ _ (digits ((goal.at.returns c).Else-decode)) (headed ((goal.at.returns c).After-read_head-head)) (measured ((goal.at.returns c).Else-has_bad_length)))
@@ -58,9 +54,3 @@ returns c =
 
 pub unread_quote-requires : goal.unread_quote-requires
 unread_quote-requires c = length_unlisted _ c.if-line.true
-
-pub returns-then-line : goal.returns-then-line
-returns-then-line c = c.unread_quote.ensures
-
-pub decode-requires : goal.decode-requires
-decode-requires c = ((sized ((goal.at.decode-requires c).Else-line)).0, (sized ((goal.at.decode-requires c).Else-line)).1, refl)

@@ -1,14 +1,7 @@
 -- `is_plain_service`: where it says so, both dates are in the calendar and all are in order.
-use mathlib.Core.Bool.{false≢true}
 use mathlib.Core.Path.{sym, ◌∙◌}
 use Rattle.split.proofs.ConditionsLaws.{service_plain}
 use Rattle.split.proofs.basis.Basis.is_plain_service.Goals as goal
-
-pub returns-then-not-is_common_date : goal.returns-then-not-is_common_date
-returns-then-not-is_common_date c e = absurd (false≢true e)
-
-pub returns-then-not-is_common_date-2 : goal.returns-then-not-is_common_date-2
-returns-then-not-is_common_date-2 c e = absurd (false≢true e)
 
 pub returns : goal.returns
 returns c e =
