@@ -81,7 +81,8 @@ module _ {h : Head} {b : List ℕ} {i next refused total : ℕ} {rows : List Pen
       one_more more (λ none small held. absurd (true≢false (sym (simp (eq-eqb r 0 none, le-leb t 50000000 small)) ∙ some)))
 
 -- a pension is accepted where nothing is refused so far
-pub none_refused : (h : Head) (p : Pension) (refused r total t : ℕ) → r ≡ lower refused (lowest 3 (pension_conditions h p)) → t ≡ total + p.stated.0 → (eqb r 0 && leb t 50000000) ≡ true
+pub none_refused : (h : Head) (p : Pension) (refused r total t : ℕ)
+    → r ≡ lower refused (lowest 3 (pension_conditions h p)) → t ≡ total + p.stated.0 → (eqb r 0 && leb t 50000000) ≡ true
     → AcceptedIn h p
 none_refused h p refused r total t judged summed all =
     record {

@@ -4,7 +4,7 @@ ghost use Rattle.factors.specs.Effective.{FactorRange};
 ghost use Rattle.split.specs.Refusal.{age_of};
 ghost use Rattle.split.specs.Benefits.{worked_pension, worked_terms, limited_lump, quarter_lump, cap_of};
 ghost use Rattle.split.specs.Limits.{rounded_up, price_of};
-ghost use Rattle.split.specs.Working.{paid_thousandths, AcceptedIn, multiple_factor, increase_of, no_row, row_of};
+ghost use Rattle.split.specs.Working.{AcceptedIn, multiple_factor, increase_of, no_row, row_of};
 
 use crate::basis::Basis;
 use crate::case::Pension;
@@ -110,7 +110,7 @@ fn paid_part(stated: YearlyPence, thousandths: u16) -> YearlyPence
 impl Basis {
     // The thousandths of a pension that are paid: any but a 2015 pension is kept whole.
     fn thousandths_of(self, p: Pension) -> u16
-        ensures { result ≡ cond (eqb p.kind 3) (paid_thousandths self.head) 1000 }
+        ensures { result ≡ cond (eqb p.kind 3) self.paid 1000 }
     {
         if p.is_of(Kind::Service2015) {
             self.paid

@@ -1,6 +1,7 @@
 -- `worked_pension` is the definition `worked_pension`: the thousandths that the kind chooses are paid, at most a thousand.
 use Prim.Native.Nat.{ℕ, ◌≤◌}
 use mathlib.Core.Bool.{Bool, true, false, cond}
+use mathlib.Core.Path.{◌∙◌, ap}
 use native.Mathlib.Omega.{arith}
 use lib.Dec.{eqb}
 use Rattle.split.proofs.WorkingLaws.{paid_at_most, worked_paid}
@@ -12,7 +13,13 @@ at_most true paid h = h
 at_most false paid h = omega arith
 
 pub paid_part-requires : goal.paid_part-requires
-paid_part-requires c = rw c.thousandths_of.ensures (at_most (eqb c.args.p.kind 3) _ (paid_at_most c.args.self.head))
+paid_part-requires c =
+    let basis = c.args.self in
+    rw c.thousandths_of.ensures (at_most (eqb c.args.p.kind 3) basis.paid (rw basis.payable (paid_at_most basis.head)))
 
 pub returns : goal.returns
-returns c = worked_paid c.args.self.head _ _ _ c.thousandths_of.ensures c.paid_part.ensures
+returns c =
+    let basis = c.args.self in
+    worked_paid basis.head _ _ _
+    (c.thousandths_of.ensures ∙ ap (λ (paid : ℕ). cond (eqb c.args.p.kind 3) paid 1000) basis.payable)
+    c.paid_part.ensures
