@@ -27,30 +27,12 @@ lines-init c = left_start line_layout number_inside _ _ c.requires.1
 pub line_number-number-requires : goal.line_number-number-requires
 line_number-number-requires c = omega (arith, inside ((goal.at.line_number-number-requires c).Else-used-at))
 
-pub overflow_add-at : goal.overflow_add-at
-overflow_add-at c = omega (arith, inside ((goal.at.overflow_add-at c).Else-used-at))
-
 pub slice_bounds-has_layout-end : goal.slice_bounds-has_layout-end
 slice_bounds-has_layout-end c = omega (arith, inside ((goal.at.slice_bounds-has_layout-end c).Else-used-at))
 
 pub has_layout-whole-requires : goal.has_layout-whole-requires
 unfolding text_length
 has_layout-whole-requires c = simp (length-take, length-drop) (omega (arith, inside ((goal.at.has_layout-whole-requires c).Else-used-at)))
-
-pub loop-place-init : goal.loop-place-init
-loop-place-init c = (omega arith, λ j h. absurd (omega arith), λ h. absurd (omega arith))
-
-pub overflow_add-at-in-loop-place : goal.overflow_add-at-in-loop-place
-overflow_add-at-in-loop-place c = omega (arith, inside ((goal.at.overflow_add-at-in-loop-place c).Else-used-at))
-
-pub bounds-register-at : goal.bounds-register-at
-bounds-register-at c = omega (arith, inside ((goal.at.bounds-register-at c).Else-used-at))
-
-pub overflow_add-result : goal.overflow_add-result
-overflow_add-result c = omega (arith, inside ((goal.at.overflow_add-result c).Else-used-at))
-
-pub overflow_add-at-in-lines : goal.overflow_add-at-in-lines
-overflow_add-at-in-lines c = omega (arith, inside ((goal.at.overflow_add-at-in-lines c).Else-used-at))
 
 -- at a place past the number's the number is right
 right : (c : Else-place-wrong) → figure_width ≤ c.loop-place.place

@@ -32,12 +32,6 @@ returns-then-number-ge4294967296 c =
     let p = last_refused _ _ _ pre.0 pre.1 refl (omega arith) _ c.number_given-number.ensures (omega arith) in
     record { answered = p.0; bytes = p.1; numbered = tt }
 
-pub overflow_add-end : goal.overflow_add-end
-overflow_add-end c = omega (arith, inside _ _ c.requires.0)
-
-pub slice_bounds-write_line-end : goal.slice_bounds-write_line-end
-slice_bounds-write_line-end c = omega (arith, inside _ _ c.requires.0)
-
 pub write_line-requires : goal.write_line-requires
 unfolding text_length
 write_line-requires c =
