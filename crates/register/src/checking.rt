@@ -91,11 +91,11 @@ fn scan_lines(register: &[u8], used: usize) -> Result<Option<u32>, Fault>
         let wrong = is_wrong_number(last, number);
         let whole = has_layout(&register[at..at + LINE_LENGTH]);
         if wrong | !whole {
-            for place in 0..LINE_LENGTH {
+            for (place, character) in register[at..at + LINE_LENGTH].iter().enumerate() {
                 if (place == FIGURE_WIDTH) & wrong {
                     break 'lines Err(Fault { offset: at });
                 }
-                if is_bad(register[at + place], place) {
+                if is_bad(*character, place) {
                     break 'lines Err(Fault { offset: at + place });
                 }
             }

@@ -1,11 +1,12 @@
 -- `scan_lines` finds what the check of the lines finds: the lines from `at` on answer for all; a line that passes the tests of its
 -- number and of all its characters has no fault, and of any other the characters before `place` are good.
-use Prim.Native.Nat.{◌+◌, ◌≤◌}
+use Prim.Native.Nat.{◌+◌, ◌-◌, ◌≤◌, ◌<◌}
 use mathlib.Core.Bool.{false, not}
 use mathlib.Core.Path.{◌≡◌, refl, sym, ◌∙◌}
 use native.Mathlib.Omega.{arith}
 use lib.Dec.{eqb}
-use lib.ListN.{length-take, length-drop}
+use lib.ListN.{get_or, take, drop, length-take, length-drop}
+use lib.Seq.{get_or-take, get_or-drop}
 use borrow.Author.Tests.{eqb-true, not-false}
 use Rattle.calendar.proofs.TestsLaws.{and_left, and_right, or_left, or_right}
 use Rattle.register.specs.Line.{figure_width, text_length}
@@ -14,7 +15,7 @@ use Rattle.register.proofs.CheckLaws.{number_inside}
 use Rattle.register.proofs.CheckLoop.{right_next, good_more, good_whole, left_start, left_done, left_inside, stop_number, stop_character, left_on, scanned_unsound}
 use Rattle.register.proofs.checking.scan_lines.Invariants.{lineSize}
 use Rattle.register.proofs.checking.scan_lines.Goals as goal
-use Rattle.register.proofs.checking.scan_lines.Goals.{Else-place-wrong, Else-used-at, else-wrong-whole, then-wrong-whole+else-loop-place-test}
+use Rattle.register.proofs.checking.scan_lines.Goals.{In-loop-place, Else-place-wrong, Else-used-at, else-wrong-whole, then-wrong-whole+else-loop-place-test}
 
 -- a whole line is left
 inside : (c : Else-used-at) → c.lines.at + lineSize ≤ c.args.used
@@ -40,17 +41,20 @@ has_layout-whole-requires c = simp (length-take, length-drop) (omega (arith, ins
 pub loop-place-init : goal.loop-place-init
 loop-place-init c = (omega arith, λ j h. absurd (omega arith), λ h. absurd (omega arith))
 
-pub overflow_add-at-in-loop-place : goal.overflow_add-at-in-loop-place
-overflow_add-at-in-loop-place c = omega (arith, inside ((goal.at.overflow_add-at-in-loop-place c).Else-used-at))
-
-pub bounds-register-at : goal.bounds-register-at
-bounds-register-at c = omega (arith, inside ((goal.at.bounds-register-at c).Else-used-at))
+-- each of a line's characters is gone through
+turn : (c : In-loop-place) → c.loop-place.place < lineSize
+turn c = omega (arith, simp (length-take, length-drop) at c.loop-place-test.true)
 
 pub overflow_add-result : goal.overflow_add-result
 overflow_add-result c = omega (arith, inside ((goal.at.overflow_add-result c).Else-used-at))
 
 pub overflow_add-at-in-lines : goal.overflow_add-at-in-lines
 overflow_add-at-in-lines c = omega (arith, inside ((goal.at.overflow_add-at-in-lines c).Else-used-at))
+
+-- and is the register's at its place
+read : (c : In-loop-place) → get_or (take (c.lines.at + lineSize - c.lines.at) (drop c.lines.at c.args.register.now)) c.loop-place.place 0
+    ≡ get_or c.args.register.now (c.lines.at + c.loop-place.place) 0
+read c = get_or-take (c.lines.at + lineSize - c.lines.at) (drop c.lines.at c.args.register.now) c.loop-place.place 0 (omega (arith, turn c)) ∙ get_or-drop c.lines.at c.args.register.now c.loop-place.place 0
 
 -- at a place past the number's the number is right
 right : (c : Else-place-wrong) → figure_width ≤ c.loop-place.place
@@ -61,9 +65,9 @@ pub loop-place-preserved : goal.loop-place-preserved
 unfolding text_length
 loop-place-preserved c =
     let p = c.loop-place in (
-      omega arith,
-      good_more line_layout number_inside c.args.register.now c.lines.at p.place c.loop-place-test.true p.invariant.1
-          (sym c.is_bad.ensures ∙ c.if-is_bad.false),
+      omega (arith, turn ((goal.at.loop-place-preserved c).In-loop-place)),
+      good_more line_layout number_inside c.args.register.now c.lines.at p.place (turn ((goal.at.loop-place-preserved c).In-loop-place)) p.invariant.1
+          (rw (read ((goal.at.loop-place-preserved c).In-loop-place)) at (sym c.is_bad.ensures ∙ c.if-is_bad.false)),
       λ h. right ((goal.at.loop-place-preserved c).Else-place-wrong) (omega arith),
     )
 
@@ -73,7 +77,7 @@ lines-preserved c =
     let s = c.args.register.now in
     let on = left_on line_layout number_inside s c.lines.invariant c.if-used-at.false c.line_number-number.result c.line_number-number.ensures in
     elim c.if-wrong-whole.branch [
-      | then-wrong-whole+else-loop-place-test b ↦ let all : b.loop-place.place ≡ lineSize = omega arith in
+      | then-wrong-whole+else-loop-place-test b ↦ let all : b.loop-place.place ≡ lineSize = omega (arith, simp (length-take, length-drop) at b.loop-place-test.false, inside ((goal.at.lines-preserved c).Else-used-at)) in
           on (rw all at b.loop-place.invariant.1) (sym c.is_wrong_number-wrong.ensures ∙ b.loop-place.invariant.2 (omega arith)) refl
       | else-wrong-whole b ↦ on
           (good_whole line_layout number_inside s c.lines.at c.has_layout-whole.result (omega (arith, inside ((goal.at.lines-preserved c).Else-used-at))) c.has_layout-whole.ensures
@@ -101,5 +105,5 @@ unfolding text_length
 returns-then-is_bad c =
     let p = c.loop-place in
     scanned_unsound
-    (stop_character line_layout number_inside _ c.lines.invariant c.if-used-at.false _ c.line_number-number.ensures p.place c.loop-place-test.true p.invariant.1
-    (sym c.is_bad.ensures ∙ c.if-is_bad.true) (λ h. sym c.is_wrong_number-wrong.ensures ∙ right ((goal.at.returns-then-is_bad c).Else-place-wrong) h))
+    (stop_character line_layout number_inside _ c.lines.invariant c.if-used-at.false _ c.line_number-number.ensures p.place (turn ((goal.at.returns-then-is_bad c).In-loop-place)) p.invariant.1
+    (rw (read ((goal.at.returns-then-is_bad c).In-loop-place)) at (sym c.is_bad.ensures ∙ c.if-is_bad.true)) (λ h. sym c.is_wrong_number-wrong.ensures ∙ right ((goal.at.returns-then-is_bad c).Else-place-wrong) h))
