@@ -1,11 +1,12 @@
 -- `scan_lines` finds what the check of the lines finds: the lines from `at` on answer for all; a line that passes the tests of its
 -- number and of all its characters has no fault, and of any other the characters before `place` are good.
-use Prim.Native.Nat.{◌+◌, ◌-◌, ◌≤◌, ◌<◌}
+use Prim.Native.Nat.{ℕ, ◌+◌, ◌≤◌, ◌<◌}
 use mathlib.Core.Bool.{false, not}
+use mathlib.Core.List.{List}
 use mathlib.Core.Path.{◌≡◌, refl, sym, ◌∙◌}
 use native.Mathlib.Omega.{arith}
 use lib.Dec.{eqb}
-use lib.ListN.{get_or, take, drop, length-take, length-drop}
+use lib.ListN.{length, get_or, take, drop, length-take, length-drop}
 use lib.Seq.{get_or-take, get_or-drop}
 use borrow.Author.Tests.{eqb-true, not-false}
 use Rattle.calendar.proofs.TestsLaws.{and_left, and_right, or_left, or_right}
@@ -41,7 +42,7 @@ has_layout-whole-requires c = simp (length-take, length-drop) (omega (arith, ins
 pub loop-place-init : goal.loop-place-init
 loop-place-init c = (omega arith, λ j h. absurd (omega arith), λ h. absurd (omega arith))
 
--- each of a line's characters is gone through
+-- a place that is gone through is one of the line's
 turn : (c : In-loop-place) → c.loop-place.place < lineSize
 turn c = omega (arith, simp (length-take, length-drop) at c.loop-place-test.true)
 
@@ -51,10 +52,9 @@ overflow_add-result c = omega (arith, inside ((goal.at.overflow_add-result c).El
 pub overflow_add-at-in-lines : goal.overflow_add-at-in-lines
 overflow_add-at-in-lines c = omega (arith, inside ((goal.at.overflow_add-at-in-lines c).Else-used-at))
 
--- and is the register's at its place
-read : (c : In-loop-place) → get_or (take (c.lines.at + lineSize - c.lines.at) (drop c.lines.at c.args.register.now)) c.loop-place.place 0
-    ≡ get_or c.args.register.now (c.lines.at + c.loop-place.place) 0
-read c = get_or-take (c.lines.at + lineSize - c.lines.at) (drop c.lines.at c.args.register.now) c.loop-place.place 0 (omega (arith, turn c)) ∙ get_or-drop c.lines.at c.args.register.now c.loop-place.place 0
+-- a character of a part of the register is the register's
+read : (n at place : ℕ) (s : List ℕ) → place < length (take n (drop at s)) → get_or (take n (drop at s)) place 0 ≡ get_or s (at + place) 0
+read n at place s h = get_or-take n (drop at s) place 0 (omega (arith, simp length-take at h)) ∙ get_or-drop at s place 0
 
 -- at a place past the number's the number is right
 right : (c : Else-place-wrong) → figure_width ≤ c.loop-place.place
@@ -67,7 +67,7 @@ loop-place-preserved c =
     let p = c.loop-place in (
       omega (arith, turn ((goal.at.loop-place-preserved c).In-loop-place)),
       good_more line_layout number_inside c.args.register.now c.lines.at p.place (turn ((goal.at.loop-place-preserved c).In-loop-place)) p.invariant.1
-          (rw (read ((goal.at.loop-place-preserved c).In-loop-place)) at (sym c.is_bad.ensures ∙ c.if-is_bad.false)),
+          (rw (read _ c.lines.at p.place _ c.loop-place-test.true) at (sym c.is_bad.ensures ∙ c.if-is_bad.false)),
       λ h. right ((goal.at.loop-place-preserved c).Else-place-wrong) (omega arith),
     )
 
@@ -106,4 +106,4 @@ returns-then-is_bad c =
     let p = c.loop-place in
     scanned_unsound
     (stop_character line_layout number_inside _ c.lines.invariant c.if-used-at.false _ c.line_number-number.ensures p.place (turn ((goal.at.returns-then-is_bad c).In-loop-place)) p.invariant.1
-    (rw (read ((goal.at.returns-then-is_bad c).In-loop-place)) at (sym c.is_bad.ensures ∙ c.if-is_bad.true)) (λ h. sym c.is_wrong_number-wrong.ensures ∙ right ((goal.at.returns-then-is_bad c).Else-place-wrong) h))
+    (rw (read _ c.lines.at p.place _ c.loop-place-test.true) at (sym c.is_bad.ensures ∙ c.if-is_bad.true)) (λ h. sym c.is_wrong_number-wrong.ensures ∙ right ((goal.at.returns-then-is_bad c).Else-place-wrong) h))
