@@ -1,13 +1,10 @@
--- The C interface: the shares' figures stored side by side, and a line found as the bytes that the engine's own call hands back.
+-- The C interface: a used length with the refusal in its place, and a line found as the bytes that the engine's own call hands back.
 -- Assumes nothing.
-use Prim.Native.Nat.{ℕ, ◌+◌, ◌≤◌, ◌<◌}
+use Prim.Native.Nat.{ℕ}
 use mathlib.Core.Bool.{Bool}
-use mathlib.Core.List.{List, map}
-use mathlib.Core.Path.{◌≡◌, sym, ◌∙◌, ap}
-use native.Mathlib.Omega.{arith}
-use lib.ListN.{length, get_or, take, drop, set, length-set}
-use lib.Seq.{take_all}
-use Rattle.split.proofs.ListLoop.{map_more, take_next}
+use mathlib.Core.List.{List}
+use mathlib.Core.Path.{◌≡◌, ◌∙◌, ap}
+use lib.ListN.{take, drop}
 use Rattle.std.specs.Prelude.{Result, Ok, Err}
 use Rattle.std.specs.Result.{result_unwrap_or}
 use Rattle.refusals.specs.declared.Refusal.{Refusal}
@@ -22,25 +19,6 @@ use Rattle.pension.specs.declared.answers.PensionWritten.{PensionWritten}
 use Rattle.pension.specs.declared.answers.PensionFound.{PensionFound}
 use Rattle.pension.specs.declared.answers.PensionFoundMember.{PensionFoundMember}
 use Rattle.pension.specs.Interface.{filed_for_c, found_for_c, found_member_for_c, written_for_c}
-
--- of four elements the first i have their figure in an array
-pub record Filled {A : Type 0} (f : A → ℕ) (xs : List A) (figures : List ℕ) (i : ℕ) : Type 0 where
-  pub size : length figures ≡ 4
-  pub part : take i figures ≡ map f (take i xs)
-
--- one more, and all
-module _ {A : Type 0} {f : A → ℕ} {xs : List A} {figures : List ℕ} {i : ℕ} (filled : Filled f xs figures i) (four : length xs ≡ 4) where
-  pub filled_more : (d : A) → i < 4 → Filled f xs (set figures i (f (get_or xs i d))) (i + 1)
-  filled_more d h = record {
-    size = simp length-set filled.size;
-    part =
-        rw (take_next xs i d (omega arith))
-        (map_more f (take i xs) figures i (get_or xs i d) (omega (arith, filled.size)) filled.part);
-  }
-
-  pub filled_all : i ≤ 4 → 4 ≤ i → figures ≡ map f xs
-  filled_all h g =
-      sym (take_all i figures (omega (arith, filled.size))) ∙ filled.part ∙ ap (map f) (take_all i xs (omega arith))
 
 -- a used length and the refusal in its place, as C has them side by side
 pub filed_given : (filed : Result ℕ Refusal) (refusal used : ℕ) → refusal ≡ refusal_number filed → used ≡ result_unwrap_or filed 0

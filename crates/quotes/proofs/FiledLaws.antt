@@ -1,10 +1,9 @@
--- Bounds of what filing a text leaves: the used part is within the register, and no text has more lines than characters. By
--- induction on the filings, of which a granted one has its room, and on the characters.
-use Rattle.std.proofs.Common.{◌≡◌, ℕ, ◌+◌, ◌≤◌, List, [], ◌∷◌, ◌++◌, length, ap, ◌∙◌, inl, inr, arith, length-append, length-drop, length-take}
+-- A bound of what filing a text leaves: the used part is within the register. By induction on the filings, of which a granted one has
+-- its room.
+use Rattle.std.proofs.Common.{◌≡◌, ℕ, ◌+◌, ◌≤◌, List, length, ap, ◌∙◌, inl, inr, arith, length-append, length-drop, length-take}
 use Rattle.std.proofs.lemmas.Bool.{cases_lt}
 use Rattle.register.specs.Layout.{Register, line_length}
 use Rattle.register.specs.File.{Filing, file_refusal, text_filed, grown, file_step, file_run}
-use Rattle.register.specs.Text.{lines_with, text_lines}
 use Rattle.register.proofs.LineLaws.{line_for-length}
 use Rattle.register.proofs.StepsLaws.{runs_keep}
 use Rattle.register.proofs.FileLaws.{refusal_none, text_granted, text_refused}
@@ -34,14 +33,3 @@ step_within r f within = grown_within r (text_filed r f) (room_filed r f within)
 
 pub run_within : (r : Register) (fs : List Filing) → r.used ≤ length r.bytes → (file_run r fs).state.used ≤ length (file_run r fs).state.bytes
 run_within r fs within = runs_keep file_step Within step_within r fs within
-
--- behind the characters before it a text has at most a line for each character
-lines_with_few : (before text : List ℕ) → length (lines_with before text) ≤ length before + length text
-unfolding lines_with
-lines_with_few [] [] = omega arith
-lines_with_few (b ∷ before) [] = omega arith
-lines_with_few before (c ∷ cs) = grind (arith, length-append, lines_with_few [] cs, lines_with_few (before ++ (c ∷ [])) cs)
-
-pub lines_few : (text : List ℕ) → length (text_lines text) ≤ length text
-unfolding text_lines
-lines_few text = omega (arith, lines_with_few [] text)

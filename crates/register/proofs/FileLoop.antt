@@ -33,7 +33,7 @@ use Rattle.register.specs.Scan.{Scanned, scanned_as, ScannedAs, Known, entered_a
 use Rattle.register.proofs.LineLaws.{line_for-length}
 use Rattle.register.proofs.StepsLaws.{runs_answer, runs_state, runs_count}
 use Rattle.register.proofs.FileLaws.{answer_granted, answer_refused, answer_refusal, text_granted, text_refused, grown_none}
-use Rattle.register.proofs.TextLaws.{lines_few, refusals_size}
+use Rattle.register.proofs.TextLaws.{lines_few}
 use Rattle.register.proofs.Shown.{file_sound, step_sound}
 use Rattle.register.proofs.Demands.{list_claim}
 
@@ -184,9 +184,6 @@ map_count first (l ∷ ls) = ap suc (map_count first ls)
 
 module _ {r₀ : Register} {first : ℕ} {text old bytes refusals : List ℕ} {k : Scanned} {used n : ℕ} {left : List (List ℕ)}
     (p : Passed r₀ first text old bytes refusals k used n left) where
-  pub passed_size : length refusals ≡ length old
-  passed_size = refusals_size (file_run r₀ (map (filing first) p.done)).answer old refusals p.given
-
   counted : n ≡ length p.done
   counted = p.count ∙ runs_count file_step r₀ (map (filing first) p.done) ∙ map_count first p.done
 

@@ -28,7 +28,8 @@ fn is_bad(character: u8, place: usize) -> bool
 }
 
 // Whether the characters of a line are its digits and its newline. It looks at them all, with no branch for each, and in whole
-// spans: the last one overlaps those before it, so that no digits are left to be judged one by one.
+// spans: the last one overlaps those before it, so that no digits are left to be judged one by one. With one call for all the
+// digits the check of a register took a ninth longer.
 fn has_layout(line: &[u8]) -> bool
     requires { length line.now ≡ line_length }
     ensures { result ≡ (not (bad_character (take text_length line.now)) && eqb (get_or line.now text_length 0) 10) }
@@ -74,7 +75,8 @@ fn is_bad_used(buffer: usize, used: usize) -> bool
 }
 
 // Goes along whole lines to the fault of the first bad one; the last line's number, and None where there is no line. Only a bad
-// line's characters are gone through one by one.
+// line's characters are gone through one by one. The loops are nested and left by a label with the finding, as the project's forms
+// have it.
 fn scan_lines(register: &[u8], used: usize) -> Result<Option<u32>, Fault>
     requires { (used ≤ length register.now) × (used % line_length ≡ 0) }
     ensures { ScannedAs (check_lines 0 0 (used_lines (lent register.now used))) (used_lines (lent register.now used)) (scanned_as result) }
@@ -89,11 +91,11 @@ fn scan_lines(register: &[u8], used: usize) -> Result<Option<u32>, Fault>
         let wrong = is_wrong_number(last, number);
         let whole = has_layout(&register[at..at + LINE_LENGTH]);
         if wrong | !whole {
-            for place in 0..LINE_LENGTH {
+            for (place, character) in register[at..at + LINE_LENGTH].iter().enumerate() {
                 if (place == FIGURE_WIDTH) & wrong {
                     break 'lines Err(Fault { offset: at });
                 }
-                if is_bad(register[at + place], place) {
+                if is_bad(*character, place) {
                     break 'lines Err(Fault { offset: at + place });
                 }
             }

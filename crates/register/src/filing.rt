@@ -133,6 +133,7 @@ pub fn file_lines(
 {
     let mut known = checking::scan(register, used);
     let mut filled = used;
+    // Counted by hand: the answer has the count, and `enumerate` keeps its own within the loop.
     let mut count = 0;
     for line in Lines::of(lines) {
         let case = Filing { first_number, line };

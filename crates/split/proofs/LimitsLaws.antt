@@ -1,15 +1,10 @@
--- Laws of a quotient rounded up, and of splits within the caps: of their total, and of each lump. Assumes nothing.
-use Prim.Native.Nat.{ℕ, zero, suc, ◌+◌, ◌≤◌}
+-- Laws of splits within the caps: of their total, and of each lump. Assumes nothing.
+use Prim.Native.Nat.{ℕ, zero, suc, ◌≤◌}
 use mathlib.Core.List.{List, [], ◌∷◌}
-use native.Mathlib.Nat.{le_trans, div-le_self}
 use native.Mathlib.Omega.{arith}
 use lib.ListN.{get_or}
 use Rattle.split.specs.declared.limits.Benefit.{Benefit}
-use Rattle.split.specs.Limits.{rounded_up, no_benefit, total, total_cap, WithinCaps}
-
--- a quotient rounded up is at most its parts together
-pub rounded_small : (x y : ℕ) → rounded_up x y ≤ x + y
-rounded_small x y = le_trans (div-le_self _ y) (omega arith)
+use Rattle.split.specs.Limits.{no_benefit, total, total_cap, WithinCaps}
 
 -- a split within the caps has at most their sum for its total
 pub total_capped : (bs : List Benefit) (xs : List ℕ) → WithinCaps bs xs → total xs ≤ total_cap bs

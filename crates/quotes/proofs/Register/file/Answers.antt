@@ -2,7 +2,8 @@
 use Rattle.std.proofs.Common.{rules, length, ap, arith}
 use Rattle.register.specs.Layout.{lent}
 use Rattle.register.specs.Text.{text_filings}
-use Rattle.quotes.proofs.FiledLaws.{run_within, lines_few}
+use Rattle.register.proofs.TextLaws.{lines_few}
+use Rattle.quotes.proofs.FiledLaws.{run_within}
 use Rattle.quotes.proofs.Register.file.Goals as goal
 
 pub invariant_of-self : goal.invariant_of-self

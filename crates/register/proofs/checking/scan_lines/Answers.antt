@@ -1,11 +1,13 @@
 -- `scan_lines` finds what the check of the lines finds: the lines from `at` on answer for all; a line that passes the tests of its
 -- number and of all its characters has no fault, and of any other the characters before `place` are good.
-use Prim.Native.Nat.{◌+◌, ◌≤◌}
+use Prim.Native.Nat.{ℕ, ◌+◌, ◌≤◌, ◌<◌}
 use mathlib.Core.Bool.{false, not}
+use mathlib.Core.List.{List}
 use mathlib.Core.Path.{◌≡◌, refl, sym, ◌∙◌}
 use native.Mathlib.Omega.{arith}
 use lib.Dec.{eqb}
-use lib.ListN.{length-take, length-drop}
+use lib.ListN.{length, get_or, take, drop, length-take, length-drop}
+use lib.Seq.{get_or-take, get_or-drop}
 use borrow.Author.Tests.{eqb-true, not-false}
 use Rattle.calendar.proofs.TestsLaws.{and_left, and_right, or_left, or_right}
 use Rattle.register.specs.Line.{figure_width, text_length}
@@ -14,7 +16,7 @@ use Rattle.register.proofs.CheckLaws.{number_inside}
 use Rattle.register.proofs.CheckLoop.{right_next, good_more, good_whole, left_start, left_done, left_inside, stop_number, stop_character, left_on, scanned_unsound}
 use Rattle.register.proofs.checking.scan_lines.Invariants.{lineSize}
 use Rattle.register.proofs.checking.scan_lines.Goals as goal
-use Rattle.register.proofs.checking.scan_lines.Goals.{Else-place-wrong, Else-used-at, else-wrong-whole, then-wrong-whole+else-loop-place-test}
+use Rattle.register.proofs.checking.scan_lines.Goals.{In-loop-place, Else-place-wrong, Else-used-at, else-wrong-whole, then-wrong-whole+else-loop-place-test}
 
 -- a whole line is left
 inside : (c : Else-used-at) → c.lines.at + lineSize ≤ c.args.used
@@ -34,6 +36,14 @@ pub has_layout-whole-requires : goal.has_layout-whole-requires
 unfolding text_length
 has_layout-whole-requires c = simp (length-take, length-drop) (omega (arith, inside ((goal.at.has_layout-whole-requires c).Else-used-at)))
 
+-- a place that is gone through is one of the line's
+turn : (c : In-loop-place) → c.loop-place.place < lineSize
+turn c = omega (arith, simp (length-take, length-drop) at c.loop-place-test.true)
+
+-- a character of a part of the register is the register's
+read : (n at place : ℕ) (s : List ℕ) → place < length (take n (drop at s)) → get_or (take n (drop at s)) place 0 ≡ get_or s (at + place) 0
+read n at place s h = get_or-take n (drop at s) place 0 (omega (arith, simp length-take at h)) ∙ get_or-drop at s place 0
+
 -- at a place past the number's the number is right
 right : (c : Else-place-wrong) → figure_width ≤ c.loop-place.place
     → c.is_wrong_number-wrong.result ≡ false
@@ -43,9 +53,9 @@ pub loop-place-preserved : goal.loop-place-preserved
 unfolding text_length
 loop-place-preserved c =
     let p = c.loop-place in (
-      omega arith,
-      good_more line_layout number_inside c.args.register.now c.lines.at p.place c.loop-place-test.true p.invariant.1
-          (sym c.is_bad.ensures ∙ c.if-is_bad.false),
+      omega (arith, turn ((goal.at.loop-place-preserved c).In-loop-place)),
+      good_more line_layout number_inside c.args.register.now c.lines.at p.place (turn ((goal.at.loop-place-preserved c).In-loop-place)) p.invariant.1
+          (rw (read _ c.lines.at p.place _ c.loop-place-test.true) at (sym c.is_bad.ensures ∙ c.if-is_bad.false)),
       λ h. right ((goal.at.loop-place-preserved c).Else-place-wrong) (omega arith),
     )
 
@@ -55,7 +65,7 @@ lines-preserved c =
     let s = c.args.register.now in
     let on = left_on line_layout number_inside s c.lines.invariant c.if-used-at.false c.line_number-number.result c.line_number-number.ensures in
     elim c.if-wrong-whole.branch [
-      | then-wrong-whole+else-loop-place-test b ↦ let all : b.loop-place.place ≡ lineSize = omega arith in
+      | then-wrong-whole+else-loop-place-test b ↦ let all : b.loop-place.place ≡ lineSize = omega (arith, simp (length-take, length-drop) at b.loop-place-test.false, inside ((goal.at.lines-preserved c).Else-used-at)) in
           on (rw all at b.loop-place.invariant.1) (sym c.is_wrong_number-wrong.ensures ∙ b.loop-place.invariant.2 (omega arith)) refl
       | else-wrong-whole b ↦ on
           (good_whole line_layout number_inside s c.lines.at c.has_layout-whole.result (omega (arith, inside ((goal.at.lines-preserved c).Else-used-at))) c.has_layout-whole.ensures
@@ -83,5 +93,5 @@ unfolding text_length
 returns-then-is_bad c =
     let p = c.loop-place in
     scanned_unsound
-    (stop_character line_layout number_inside _ c.lines.invariant c.if-used-at.false _ c.line_number-number.ensures p.place c.loop-place-test.true p.invariant.1
-    (sym c.is_bad.ensures ∙ c.if-is_bad.true) (λ h. sym c.is_wrong_number-wrong.ensures ∙ right ((goal.at.returns-then-is_bad c).Else-place-wrong) h))
+    (stop_character line_layout number_inside _ c.lines.invariant c.if-used-at.false _ c.line_number-number.ensures p.place (turn ((goal.at.returns-then-is_bad c).In-loop-place)) p.invariant.1
+    (rw (read _ c.lines.at p.place _ c.loop-place-test.true) at (sym c.is_bad.ensures ∙ c.if-is_bad.true)) (λ h. sym c.is_wrong_number-wrong.ensures ∙ right ((goal.at.returns-then-is_bad c).Else-place-wrong) h))

@@ -19,9 +19,6 @@ abbrev pub invariant-loop-place : goal.invariant-loop-place
 invariant-loop-place l =
     (l.place ≤ lineSize) × Good line_layout (line_at line_layout l.register l.at) l.place × (figure_width < l.place → l.wrong ≡ false)
 
-abbrev pub decreases-loop-place : goal.decreases-loop-place
-decreases-loop-place l = lineSize - l.place
-
 abbrev pub invariant-lines : goal.invariant-lines
 invariant-lines l = Left line_layout number_inside l.register l.used l.at (next_after l.last)
 
