@@ -36,8 +36,8 @@ fn leap_year(year: u32) -> bool
     fourth & (!hundredth | four_hundredth)
 }
 
-// The days that a month has in every year, so without 29 February, as in 1901; 0 where there is no such month. An arm a month is a
-// table to the compiler. Months that share an arm, as `4 | 6 | 9 | 11`, are branches, by which in_calendar takes twice as long.
+// The days that a month has in every year, so without 29 February, as in 1901; 0 where there is no such month, as the definition
+// month_length has it. An arm a month is a table to the compiler. Months that share an arm, as `4 | 6 | 9 | 11`, are branches, by which in_calendar takes twice as long.
 #[tactic(auto, unfolding(crate::specs::Calendar::month_length, crate::specs::Calendar::month_in, crate::specs::Calendar::thirty, crate::specs::Calendar::leap))]
 fn days_of(month: u32) -> u32
     ensures { result ≡ month_length 1901 month }

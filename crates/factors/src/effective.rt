@@ -42,7 +42,7 @@ fn lump_bottom(t: FactorTerms) -> u64
 
 // E of a pension as 10N/D, whatever its kind: kind 3, as which any number that is no kind counts, has 1,200 for F1, and PI counts
 // for kind 2 alone. One formula, since kinds come in any order and a branch by them is mispredicted; its tops and bottoms
-// are of one size, so that a division by them does not branch either.
+// are of one size, so that a division by them does not branch either. The kind is a number, since the definition answers for any.
 #[tactic(auto, using(crate::proofs::EffectiveLaws::multiple_made))]
 pub fn effective_factor(kind: u8, t: FactorTerms) -> Factor
     ensures { result ≡ multiple (multiplier kind) (effective_factor kind t) }

@@ -7,12 +7,12 @@ ghost use Rattle.joining.specs.Answers.{written_as};
 ghost use Rattle.pension.specs.Interface.{quote_for_c, checked_for_c, filed_for_c, found_for_c, found_member_for_c, commuted_for_c, written_for_c};
 
 use crate::answers::{
-    PensionChecked, PensionCommuted, PensionFiled, PensionFound, PensionFoundMember, PensionQuote,
-    PensionWritten,
+    PensionChecked, PensionCommuted, PensionFiled, PensionFiledLines, PensionFound,
+    PensionFoundMember, PensionQuote, PensionWritten,
 };
 use factors::money::LumpPence;
 use refusals::{Refusal, number_of};
-use register::answers::{Extent, Fault, FoundMember};
+use register::answers::{Extent, Fault, FiledLines, FoundMember};
 use split::answers::Granted;
 
 impl From<Result<Granted, Refusal>> for PensionQuote {
@@ -69,6 +69,17 @@ impl From<Result<usize, Refusal>> for PensionFiled {
     }
 }
 
+impl From<FiledLines> for PensionFiledLines {
+    ghost from_gives = { λ filed given. (given.used ≡ filed.used) × (given.lines ≡ filed.lines) };
+
+    fn from(filed: FiledLines) -> PensionFiledLines {
+        PensionFiledLines {
+            used: filed.used,
+            lines: filed.lines,
+        }
+    }
+}
+
 impl From<Result<Extent, Refusal>> for PensionFound {
     ghost from_gives = { λ line given. given ≡ found_for_c (located_as line) };
 
@@ -102,6 +113,7 @@ impl From<FoundMember> for PensionFoundMember {
     }
 }
 
+// The struct of a join is another than that of a filing in C.
 impl From<Result<usize, Refusal>> for PensionWritten {
     ghost from_gives = { λ written given. given ≡ written_for_c (written_as written) };
 

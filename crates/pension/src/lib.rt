@@ -64,10 +64,7 @@ pub extern "C" fn pension_file_lines(
     ensures { FiledTextForC (lent register.old used) first_number lines.now refusals.old register.new refusals.new result }
 {
     let filed = register::file_lines(register, used, first_number, lines, refusals);
-    PensionFiledLines {
-        used: filed.used,
-        lines: filed.lines,
-    }
+    PensionFiledLines::from(filed)
 }
 
 // Files every line of a text into an empty register, each with the same first number.

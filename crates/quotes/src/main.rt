@@ -22,7 +22,8 @@ const OUTPUT_LENGTH: usize = 65536;
 // The number of the first filed line.
 const FIRST_NUMBER: u32 = 1;
 
-// A block of input, and how many characters of a line without its end are kept at its start.
+// A block of input, and how many characters of a line without its end are kept at its start. The memory of the program is fixed, so that
+// each of its buffers has a length beside it.
 #[derive(Drop)]
 struct Input {
     bytes: [u8; INPUT_LENGTH],

@@ -54,7 +54,7 @@ impl Refusal {
     }
 }
 
-// The number of an answer that may be a refusal; 0 where nothing is refused.
+// The number of an answer that may be a refusal; 0 where nothing is refused, as the documents and the C interface have it.
 pub fn number_of<T>(answer: &Result<T, Refusal>) -> u8
     ensures { result ≡ refusal_number answer.now }
 {

@@ -39,7 +39,8 @@ fn has_layout(line: &[u8]) -> bool
     !(bad_whole | bad_last) & (line[TEXT_LENGTH] == b'\n')
 }
 
-// The number of the line at a place, where its characters are digits. It is worked out without asking whether they are.
+// The number of the line at a place, where its characters are digits. It is worked out without asking whether they are: by the split's
+// number_at, which asks, a check takes an eighth longer.
 fn line_number(register: &[u8], at: usize) -> u32
     requires { at + figure_width ≤ length register.now }
     ensures { DigitsAt register.now at figure_width → result ≡ number_at register.now at figure_width }
@@ -75,8 +76,8 @@ fn is_bad_used(buffer: usize, used: usize) -> bool
 }
 
 // Goes along whole lines to the fault of the first bad one; the last line's number, and None where there is no line. Only a bad
-// line's characters are gone through one by one. The loops are nested and left by a label with the finding, as the project's forms
-// have it.
+// line's characters are gone through one by one. The rules ask for nested loops, left by a label with the finding, which a
+// `for` can't give as its value.
 fn scan_lines(register: &[u8], used: usize) -> Result<Option<u32>, Fault>
     requires { (used ≤ length register.now) × (used % line_length ≡ 0) }
     ensures { ScannedAs (check_lines 0 0 (used_lines (lent register.now used))) (used_lines (lent register.now used)) (scanned_as result) }

@@ -24,7 +24,8 @@ const YEAR_UNIT: u32 = 65536;
 // How far the default first numbers of one year and the next are apart.
 const YEAR_NUMBERS: u64 = 100000;
 
-// What is filed: the first number, which an empty register takes, and the case line.
+// What is filed: the first number, which an empty register takes, and the case line. A first number 0 stands for the default, as the
+// definition number_set and C have it.
 #[derive(Clone, Copy)]
 struct Filing<'a> {
     first_number: u32,
@@ -61,7 +62,8 @@ struct Entered {
     used: usize,
 }
 
-// Files an accepted case, of which this is the quote, in a sound register, of which the last line's number is known.
+// Files an accepted case, of which this is the quote, in a sound register, of which the last line's number is known. Bytes and used length
+// stand side by side: a struct with the lent bytes in it is no plainer, as it would be lent on for each line, and the contracts say lent.
 fn enter(
     register: &mut [u8],
     used: usize,
@@ -121,7 +123,7 @@ pub fn file(
 }
 
 // Files the lines of a text one after the other, each with the same first number, with one check of the register: the used length
-// from then on and how many lines there were, and a refusal for each line as far as there is room.
+// from then on and how many lines there were, and a refusal for each line as far as there is room, as a number in a byte that C lends.
 pub fn file_lines(
     register: &mut [u8],
     used: usize,

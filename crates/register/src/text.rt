@@ -25,7 +25,7 @@ impl<'a> Iterator for Lines<'a> {
 
     ghost remaining = { item_count lines_left };
 
-    // Takes the first line off. Within the loop that files the lines it would make that take three hundredths longer.
+    // Takes the first line off. Made part of the loop that files the lines, it makes that loop three hundredths slower.
     #[inline(never)]
     fn next(&mut self) -> Option<&'a [u8]> {
         let text = self.0;

@@ -24,8 +24,8 @@ pub struct Service {
     pub end: Date,
 }
 
-// A pension as its line has it. The kind is the line's byte, since a byte that stands for no kind is refused only after the conditions
-// that come first: the definitions, as unknown_kind, are of that byte.
+// A pension as its line has it. Kind and lift flag are the line's bytes, since a byte that stands for none is refused only after the
+// conditions that come first: the definitions, as unknown_kind and unlisted, are of those bytes.
 #[derive(Clone, Copy)]
 pub struct Pension {
     pub kind: u8,

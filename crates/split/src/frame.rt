@@ -69,7 +69,8 @@ fn decode_block(line: &[u8], bytes: &mut [u8; LONGEST], at: usize, found: bool) 
 }
 
 // Decodes a line that is longer than a block, and says whether some character is no digit. The last block ends before the
-// last character, wherever it begins: it may overlap the block before it.
+// last character, wherever it begins: it may overlap the block before it. It answers a flag and no Result, since every block is decoded
+// before any is judged, with no branch.
 pub fn decode(line: &[u8], bytes: &mut [u8; LONGEST]) -> bool
     requires { (block_length < length line.now) × (length line.now ≤ longest_line) × (length bytes.old ≡ longest_line) }
     ensures { (result ≡ bad_character line.now) × (result ≡ false → Bytes line.now bytes.new) }
@@ -83,7 +84,7 @@ pub fn decode(line: &[u8], bytes: &mut [u8; LONGEST]) -> bool
     bad | (hex_value(line[last + BLOCK]) == 16)
 }
 
-// The digit at a place of any bytes; 0 past the end and where the character is no digit.
+// The digit at a place of any bytes; 0 past the end and where the character is no digit, as the definition digit_at has it.
 fn digit_at(line: &[u8], at: usize) -> u32
     ensures { (result ≡ digit_at line.now at) × (result < 16) }
 {

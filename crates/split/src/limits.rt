@@ -21,7 +21,8 @@ pub struct Benefit {
 }
 
 // The row of a pension: the pension as the limits see it, the price of one penny of lump, the lump it has been given, the
-// increase that gives a second instalment, and whether its turn in the grant is still to come.
+// increase that gives a second instalment, and whether its turn in the grant is still to come. Lump and turn stand side by side as in the
+// definition Row.
 #[derive(Clone, Copy)]
 pub struct PensionRow {
     pub benefit: Benefit,
@@ -51,7 +52,7 @@ fn is_limited(p: Pension) -> bool
     (first | second) & (((300 <= months) & (months <= 359)) & (p.lift == 0))
 }
 
-// A quotient rounded up to a whole number.
+// A quotient rounded up to a whole number. The library's div_ceil was tried: its equality with the definition stayed open.
 fn rounded_up(x: u64, y: u64) -> u64
     requires { (0 < y) × (x + y < 18446744073709551616) }
     ensures { result ≡ rounded_up x y }
@@ -97,7 +98,8 @@ fn increase_of(p: Pension) -> u16
     }
 }
 
-// The part of a stated pension that is paid, down to the penny.
+// The part of a stated pension that is paid, down to the penny. reduced_pension of the factors takes months, and would look up again what
+// the head gives once.
 fn paid_part(stated: YearlyPence, thousandths: u16) -> YearlyPence
     requires { thousandths ≤ 1000 }
     ensures { result.0 ≡ stated.0 * thousandths / 1000 }
@@ -131,12 +133,7 @@ impl Basis {
         ensures { result ≡ worked_terms (age_of self.head) t }
     {
         let f1 = if t.f1 == 0 { self.found } else { t.f1 };
-        FactorTerms {
-            f1,
-            f2: t.f2,
-            f3: t.f3,
-            increase: t.increase,
-        }
+        FactorTerms { f1, ..t }
     }
 
     // What is paid of an accepted pension, and E as one top over one bottom whatever the kind.
@@ -170,7 +167,7 @@ impl Basis {
     }
 }
 
-// The row that stands for none.
+// The row that stands for none, in a place without a pension: the memory is fixed.
 pub fn no_row() -> PensionRow
     ensures { result ≡ no_row }
 {

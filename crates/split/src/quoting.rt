@@ -35,7 +35,7 @@ fn remaining_of(pension: YearlyPence, e: Factor, lump: LumpPence) -> YearlyPence
     YearlyPence(pension.0 - given_up as u32)
 }
 
-// The second instalment of an increase, which is 0 for all kinds but 2.
+// The second instalment of an increase, which is 0 but for a pension after a break.
 fn second_of(increase: u16, lump: LumpPence) -> LumpPence
     requires { (lump.0 ≤ 1000000000) × (increase ≤ 10000) }
     ensures { result.0 ≡ lump.0 * increase / 10000 }

@@ -47,7 +47,8 @@ fn is_unknown_kind(p: Pension) -> bool
     Kind::try_from(p.kind).is_err()
 }
 
-// A bound where it applies, and 0 where it does not.
+// A bound where it applies, and 0 where it does not. The flag chooses between ready values, as the definition's cond does: a branch by
+// the kind would often be mispredicted.
 fn bound(applies: bool, bound: u32) -> u32
     ensures { result ≡ cond applies bound 0 }
 {

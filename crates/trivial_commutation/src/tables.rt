@@ -138,7 +138,7 @@ pub fn table_of(scheme: u32) -> Option<Table>
     }
 }
 
-// The factors at an age by the table of a scheme; zeros where there are none, as the definition no_row has them.
+// The factors at an age by the table of a scheme; zeros where there are none, as those of the definition no_row.
 #[tactic(auto, using(crate::proofs::OwnRow::placed, crate::proofs::OwnRow::no_age))]
 pub fn factors_of(scheme: u32, age: u32) -> Factors
     ensures { result ≡ (row_of (table_of scheme) age).factors }
