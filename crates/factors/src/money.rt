@@ -1,4 +1,4 @@
-// The two units of money, in whole pence. They meet only where a factor is applied.
+// The two units of money, in whole pence: a type each, as the rules ask, so that they never mix. They meet only where a factor is applied.
 
 // Money paid once.
 #[derive(Clone, Copy, Debug, PartialEq, Eq, PartialOrd, Ord)]

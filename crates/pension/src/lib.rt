@@ -130,7 +130,7 @@ pub extern "C" fn pension_trivial_commutation(
     PensionCommuted::from(trivial_commutation::commute(scheme, age, member, survivor))
 }
 
-// Which test the date of these numbers breaks first, or 0 for none.
+// Which test the date of these numbers breaks first, or 0 for none, since C has a number and no Option.
 #[unsafe(no_mangle)]
 pub extern "C" fn pension_date_fault(year: u32, month: u32, day: u32) -> u32
     ensures { result ≡ date_fault year month day }

@@ -1,4 +1,4 @@
-// The check of a register.
+// The check of a register. Bytes and used length stand side by side, as C hands them over.
 ghost use Rattle.std.specs.Prelude.{◌≡◌, cond, not, ◌&&◌, ◌+◌, ◌%◌, ◌≤◌, ltb, eqb, length, get_or, take};
 ghost use Rattle.split.specs.Frame.{is_no_digit, bad_character, number_at};
 ghost use Rattle.register.specs.Line.{figure_width, text_length};

@@ -157,7 +157,7 @@ pub fn file_lines(
 }
 
 // Files every line of a text into an empty register, each with the same first number: the used length, and a refusal for each line
-// as far as there is room.
+// as far as there is room, as a number in a byte that C lends.
 pub fn file_all(register: &mut [u8], first_number: u32, lines: &[u8], refusals: &mut [u8]) -> usize
     ensures { FiledAll register.old first_number lines.now refusals.old register.new refusals.new result }
 {

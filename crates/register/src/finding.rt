@@ -1,6 +1,7 @@
 // Finding a line by its number, and a member's newest line. Each find has two calls: one hands back the line's own bytes, the
 // one beside it the refusal or where they are, and for a member also how many lines were compared. One find for both would be no plainer:
-// what they share is line_at and bytes_at, and a number's line needs no search.
+// what they share is line_at and bytes_at, and a number's line needs no search. Bytes and used length
+// stand side by side, as C hands them over.
 ghost use Rattle.std.specs.Prelude.{◌≡◌, ◌+◌, ◌*◌, ◌%◌, ◌^◌, ◌≤◌, ◌<◌, length, take, drop, IfSome};
 ghost use Rattle.split.specs.Frame.{number_at};
 ghost use Rattle.register.specs.Line.{figure_width, member_place};

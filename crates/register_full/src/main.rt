@@ -12,7 +12,7 @@ const FIRST_NUMBER: u32 = 1;
 // More filings than the register has room for.
 const FILINGS: u64 = 1000;
 
-// A register and its used length.
+// A register and its used length. The memory of the program is fixed, so that the buffer has a length beside it.
 #[derive(Drop)]
 struct Register {
     bytes: [u8; REGISTER_LENGTH],

@@ -9,7 +9,7 @@ pub struct Share {
     pub second: LumpPence,
 }
 
-// What is granted to an accepted case. A place without a pension has zeros.
+// What is granted to an accepted case. The memory is fixed, so that there are four places; one without a pension has zeros.
 #[derive(Clone, Copy)]
 pub struct Granted {
     pub member: u32,

@@ -10,6 +10,7 @@ use calendar::Date;
 use factors::effective::FactorTerms;
 use factors::money::{LumpPence, YearlyPence};
 
+// A head as its line has it. The count is the line's byte, of any value: the definition bad_length is of that byte.
 #[derive(Clone, Copy)]
 pub struct Head {
     pub member: u32,

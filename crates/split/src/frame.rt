@@ -177,7 +177,8 @@ impl Cursor {
     }
 }
 
-// The number of four bytes at a place of any bytes.
+// The number of four bytes at a place of any bytes; 0 past the end, and no Option, as the definition number_at has it: an open reader can't
+// fail.
 pub fn number_at(line: &[u8], at: usize) -> u32
     ensures { result ≡ number_at line.now at 8 }
 {

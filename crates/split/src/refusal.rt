@@ -55,7 +55,7 @@ fn bound(applies: bool, bound: u32) -> u32
     if applies { bound } else { 0 }
 }
 
-// Whether x is within a list that applies, or 0 where it does not.
+// Whether x is within a list that applies, or 0 where it does not, by the flag as in bound.
 fn is_listed(applies: bool, low: u32, high: u32, x: u32) -> bool
     ensures { result ≡ cond applies (within low high x) (eqb x 0) }
 {

@@ -48,6 +48,7 @@ fn lump_sum(factors: Factors, member: YearlyPence, survivor: YearlyPence) -> Lum
 
 // Commutes the pension of a scheme (1987, 2006 or 2015) in payment to a former officer of an age in completed years, and the
 // survivor's pension with it. The scheme is a number, since any may come and each but these is refused.
+// The two pensions are two amounts of one call: a struct for them would be no plainer.
 pub fn commute(
     scheme: u32,
     age: u32,
