@@ -2,7 +2,7 @@
 // the registers are compared and copied by whole parts: their numbers rise by one, so the first of each tells which lines both have.
 #![tactic(auto)]
 
-ghost use Rattle.std.specs.Prelude.{◌≡◌, not, ◌++◌};
+ghost use Rattle.std.specs.Prelude.{◌≡◌, not, ◌++◌, length};
 ghost use Rattle.register.specs.Layout.{lent, used_lines};
 ghost use Rattle.joining.specs.Join.{first_number, same_characters, join_step};
 ghost use Rattle.joining.specs.Answers.{written_as};
@@ -39,6 +39,16 @@ fn is_unlike(first: &[u8], second: &[u8]) -> bool
     first != second
 }
 
+// Copies a part over another of its length. `copy_from_slice` calls the C library's memmove, and the C archive calls nothing.
+fn copy(from: &[u8], to: &mut [u8])
+    requires { length from.now ≡ length to.old }
+    ensures { to.new ≡ from.now }
+{
+    for (place, character) in from.iter().enumerate() {
+        to[place] = *character;
+    }
+}
+
 // Writes two parts one behind the other at a buffer's start, and nothing where it is too short for both.
 fn write_parts(first: &[u8], second: &[u8], target: &mut [u8]) -> Result<usize, Refusal>
     ensures { (written_as result ≡ (write_step (first.now ++ second.now) target.old).answer) × (target.new ≡ (write_step (first.now ++ second.now) target.old).state) }
@@ -51,8 +61,8 @@ fn write_parts(first: &[u8], second: &[u8], target: &mut [u8]) -> Result<usize, 
         return Err(TargetTooShort);
     }
     let used = seam + second.len();
-    target[0..seam].copy_from_slice(first);
-    target[seam..used].copy_from_slice(second);
+    copy(first, &mut target[0..seam]);
+    copy(second, &mut target[seam..used]);
     Ok(used)
 }
 

@@ -19,4 +19,4 @@ pub returns : goal.returns
 returns c =
     let s = c.args in
     write_fits s.first.now s.second.now s.target.now (search rules) _ _
-    c.copy_from_slice.ensures.after c.copy_from_slice-2.ensures.after
+    c.copy.ensures c.copy-2.ensures
