@@ -2,11 +2,12 @@
 // filed line, or R and the refusal as two decimal digits.
 #![tactic(auto)]
 
-ghost use Rattle.std.specs.Prelude.{◌+◌, ◌≤◌, ◌≡◌, length, take, drop, IfOk, IfSome, OnOk, OnErr};
+ghost use Rattle.std.specs.Prelude.{ℕ, ◌+◌, ◌≤◌, ◌≡◌, length, take, drop, IfOk, IfSome, OnOk, OnErr};
 ghost use Rattle.split.specs.Case.{longest_line};
 ghost use Rattle.split.specs.Overlong.{QuotedAs};
-ghost use Rattle.quotes.specs.Bounds.{input_length, register_length, output_length};
+ghost use Rattle.quotes.specs.Bounds.{input_length, register_length, output_length, WholeLines};
 
+use memchr::memrchr;
 use register::LINE_LENGTH;
 use std::io;
 use std::io::Read;
@@ -47,9 +48,9 @@ impl Input {
     // Where the last line with a newline ends before a place; 0 where there is none.
     fn whole_lines(&self, before: usize) -> usize
         requires { before ≤ input_length }
-        ensures { result ≤ before }
+        ensures { WholeLines (take before self.now.bytes) result }
     {
-        let newline = self.bytes[..before].iter().rposition(|c| *c == b'\n');
+        let newline = memrchr(b'\n', &self.bytes[..before]);
         newline.map_or(0, |at| at + 1)
     }
 
@@ -165,6 +166,7 @@ impl<R: Read + Drop, P: Print> Run<'_, R, P> {
     // Takes the input up to an end: its whole lines are filed, and what is left is kept.
     fn take_block(&mut self, end: usize) -> io::Result<()>
         requires { end ≤ input_length }
+        ensures kept { OnOk result ((whole : ℕ) × WholeLines (take end self.old.input.bytes) whole × QuotedAs (take self.new.input.kept self.new.input.bytes) (drop whole (take end self.old.input.bytes))) }
     {
         let whole = self.input.whole_lines(end);
         self.file_text(whole)?;
