@@ -1,13 +1,15 @@
--- Laws of the definitions of joining: equal characters, also as lists are compared pair by pair; so many numbers from a
+-- Laws of the definitions of joining: equal characters, also as lists are compared pair by pair, and told by a flag and the rest; so many numbers from a
 -- given one on; the result's lines by their places; what 16 says of each number; what joining answers and leaves, by its refusal; and
 -- what no refusal says. By induction on the characters and on the numbers. Assumes nothing.
 use Prim.Native.Nat.{ℕ, zero, suc, ◌+◌, ◌-◌, ◌≤◌, ◌<◌}
-use mathlib.Core.Bool.{Bool, true, false, cond, not, ◌&&◌, ◌||◌, or-true, false≢true}
+use mathlib.Core.Bool.{Bool, true, false, cond, not, ◌&&◌, ◌||◌, or-true, or-false, or_assoc, false≢true}
 use mathlib.Core.List.{List, [], ◌∷◌}
 use mathlib.Core.Path.{◌≡◌, refl, sym, ◌∙◌, ap}
+use native.Mathlib.Numerals.{add-one}
 use native.Mathlib.Omega.{arith}
 use lib.Dec.{eqb}
-use lib.ListN.{length, get_or, length-map}
+use lib.ListN.{length, get_or, drop, drop_of_length-le, length-map}
+use lib.Seq.{drop-cons}
 use lib.Pointwise.{pointwise, bytes_decides}
 use borrow.Author.Tests.{ltb-true, ltb-false, lt-ltb, le-ltb, eqb-true, ne_eqb, not-false}
 use Rattle.calendar.proofs.TestsLaws.{or_left, or_right, not_true_false, by_test, by_zero, any_none, none_any, some_any}
@@ -40,6 +42,30 @@ same_swapped xs ys = go (same_characters xs ys) refl
     go true e = sym (equal_same ys xs (sym (same_equal xs ys e)))
     go false e =
         sym (not_true_false (same_characters ys xs) (λ t. false≢true (sym e ∙ equal_same xs ys (sym (same_equal ys xs t)))))
+
+-- a flag and the rest from a place on answer for the whole: with one more character, and past the end the flag alone
+module _ (xs ys : List ℕ) (i : ℕ) (whole flag : Bool) (rest : whole ≡ (flag || not (same_characters (drop i xs) (drop i ys)))) where
+  next : i < length xs → i < length ys
+      → not (same_characters (drop i xs) (drop i ys))
+      ≡ (not (eqb (get_or xs i 0) (get_or ys i 0)) || not (same_characters (drop (i + 1) xs) (drop (i + 1) ys)))
+  unfolding same_characters
+  next h g = rw (add-one, drop-cons xs i 0 h, drop-cons ys i 0 g) (go (eqb (get_or xs i 0) (get_or ys i 0)) _)
+    where
+      go : (a b : Bool) → not (a && b) ≡ (not a || not b)
+      go true b = refl
+      go false b = refl
+
+  pub unlike_more : i < length xs → i < length ys
+      → whole ≡ ((flag || not (eqb (get_or xs i 0) (get_or ys i 0))) || not (same_characters (drop (i + 1) xs) (drop (i + 1) ys)))
+  unlike_more h g = rest ∙ ap (λ (b : Bool). flag || b) (next h g) ∙ sym (or_assoc flag _ _)
+
+  pub unlike_all : length xs ≤ i → length ys ≤ i → flag ≡ whole
+  unfolding same_characters
+  unlike_all h g = sym (rest ∙ rw (drop_of_length-le xs h, drop_of_length-le ys g) (or-false flag))
+
+-- parts of two lengths are not equal
+pub unlike_lengths : (xs ys : List ℕ) → ¬ (length xs ≡ length ys) → same_characters xs ys ≡ false
+unlike_lengths xs ys h = not_true_false (same_characters xs ys) (λ t. h (ap length (same_equal xs ys t)))
 
 -- so many numbers are made as are asked for, each by its place
 pub numbers_count : (number n : ℕ) → length (numbers_from number n) ≡ n
