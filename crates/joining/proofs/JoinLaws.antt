@@ -1,6 +1,6 @@
--- Laws of the definitions of joining: equal characters, also as lists are compared pair by pair, and told by a flag and the rest; so many numbers from a
--- given one on; the result's lines by their places; what 16 says of each number; what joining answers and leaves, by its refusal; and
--- what no refusal says. By induction on the characters and on the numbers. Assumes nothing.
+-- Laws of the definitions of joining: equal characters, told pair by pair, and by a flag and the rest from a place on; so many
+-- numbers from a given one on; the result's lines by their places; what 16 says of each number; what joining answers and leaves, by its
+-- refusal; and what no refusal says. By induction on the characters and on the numbers. Assumes nothing.
 use Prim.Native.Nat.{ℕ, zero, suc, ◌+◌, ◌-◌, ◌≤◌, ◌<◌}
 use mathlib.Core.Bool.{Bool, true, false, cond, not, ◌&&◌, ◌||◌, or-true, or-false, or_assoc, false≢true}
 use mathlib.Core.List.{List, [], ◌∷◌}

@@ -2,10 +2,12 @@
 // filed line, or R and the refusal as two decimal digits.
 #![tactic(auto)]
 
-ghost use Rattle.std.specs.Prelude.{ℕ, ◌+◌, ◌≤◌, ◌≡◌, length, take, drop, IfOk, IfSome, OnOk, OnErr};
+ghost use Rattle.std.specs.Prelude.{◌+◌, ◌≤◌, ◌≡◌, length, take, drop, IfOk, IfSome, OnOk, OnErr};
 ghost use Rattle.split.specs.Case.{longest_line};
 ghost use Rattle.split.specs.Overlong.{QuotedAs};
-ghost use Rattle.quotes.specs.Bounds.{input_length, register_length, output_length, WholeLines};
+ghost use Rattle.register.specs.Layout.{lent};
+ghost use Rattle.quotes.specs.Block.{WholeLines, after_text, BlockTaken};
+ghost use Rattle.quotes.specs.Bounds.{input_length, register_length, output_length};
 
 use memchr::memrchr;
 use register::LINE_LENGTH;
@@ -76,20 +78,21 @@ struct Register {
 }
 
 impl Register {
-    // Files the lines of a text: the part of the register that begins with the new lines, and a refusal for each line of the text.
-    fn file(&mut self, text: &[u8]) -> (&[u8], &[u8])
+    // Files the lines of a text behind the used part, and tells how many lines it has; the first refusals are theirs.
+    fn file(&mut self, text: &[u8]) -> usize
         requires { length text.now ≤ input_length }
+        ensures filed { lent self.new.bytes self.new.used ≡ after_text (lent self.old.bytes self.old.used) text.now }
+        ensures few { result ≤ input_length }
     {
-        let from = self.used;
         let filed = register::file_lines(
             &mut self.bytes,
-            from,
+            self.used,
             FIRST_NUMBER,
             text,
             &mut self.refusals,
         );
         self.used = filed.used;
-        (&self.bytes[from..], &self.refusals[..filed.lines])
+        filed.lines
     }
 }
 
@@ -155,18 +158,22 @@ impl<R: Read + Drop, P: Print> Run<'_, R, P> {
     fn file_text(&mut self, end: usize) -> io::Result<()>
         requires { end ≤ input_length }
         ensures input { (self.new.input.bytes ≡ self.old.input.bytes) × (self.new.input.kept ≡ self.old.input.kept) }
+        ensures filed { lent self.new.register.bytes self.new.register.used ≡ after_text (lent self.old.register.bytes self.old.register.used) (take end self.old.input.bytes) }
     {
         if end == 0 {
             return Ok(());
         }
-        let (filed, refusals) = self.register.file(&self.input.bytes[..end]);
-        self.output.say_answers(filed, refusals)
+        let from = self.register.used;
+        let lines = self.register.file(&self.input.bytes[..end]);
+        let register = &self.register;
+        self.output
+            .say_answers(&register.bytes[from..], &register.refusals[..lines])
     }
 
     // Takes the input up to an end: its whole lines are filed, and what is left is kept.
     fn take_block(&mut self, end: usize) -> io::Result<()>
         requires { end ≤ input_length }
-        ensures kept { OnOk result ((whole : ℕ) × WholeLines (take end self.old.input.bytes) whole × QuotedAs (take self.new.input.kept self.new.input.bytes) (drop whole (take end self.old.input.bytes))) }
+        ensures taken { OnOk result (BlockTaken (lent self.old.register.bytes self.old.register.used) (take end self.old.input.bytes) (lent self.new.register.bytes self.new.register.used) (take self.new.input.kept self.new.input.bytes)) }
     {
         let whole = self.input.whole_lines(end);
         self.file_text(whole)?;

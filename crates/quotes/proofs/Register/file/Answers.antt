@@ -12,7 +12,7 @@ invariant_of-self c =
     let within = run_within (lent c.args.self.now.bytes c.args.self.now.used) (text_filings 1 c.args.text.now) (search rules) in
     record { within = omega (arith, within, ap (λ a. a.used) filed.ensures.answered, ap length filed.ensures.bytes) }
 
-pub shared_ref_as_front-result : goal.shared_ref_as_front-result
-shared_ref_as_front-result c =
+pub returns-clause-few : goal.returns-clause-few
+returns-clause-few c =
     let counted = ap (λ a. a.lines) c.file_lines-filed.ensures.answered in
     omega (arith, counted, lines_few c.args.text.now, c.requires)
